@@ -2,11 +2,10 @@
 
 mod calls;
 mod cursors;
-mod digits;
 mod fitting;
-mod forests;
+pub mod forests;
 mod limits;
 mod opened;
-mod refusals;
+pub mod refusals;
 mod version_two;
 mod violations;

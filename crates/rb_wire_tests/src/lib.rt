@@ -2,9 +2,13 @@
 #![tactic(auto)]
 
 #[cfg(test)]
-mod changes;
+mod digits;
 #[cfg(test)]
 mod forest;
+#[cfg(test)]
+mod parts;
+#[cfg(test)]
+mod payloads;
 #[cfg(test)]
 mod script;
 #[cfg(test)]

@@ -1,8 +1,7 @@
 // Tests of the lines that runs and tables print, and of the views of divisions.
 
 mod endings;
+mod expected;
 mod literals;
-mod remainders;
-mod scripts;
 mod tables;
 mod views;

@@ -1,12 +1,12 @@
 // Each call of a cursor, made at each place of walks.
 
-use crate::forest::digits::bytes_of;
+use crate::digits::bytes_of;
 use crate::forest::forests::ALL_FORMS;
 use crate::forest::opened::{Answer, Call, Opened};
 use crate::forest::version_two::spellings::ALL_FORMS as SHORT_FORMS;
 use rb_trees::Node;
 use rb_wire_forest::{Cursor, Forest, Item, decode_forest, scan_forest};
-use std::alloc::{AllocError, Global};
+use std::alloc::Global;
 use std::test::Fail;
 
 /// Nodes and Rows within each other, behind each of which something is left: a branch, with Rows of two nodes, the first with
@@ -55,9 +55,9 @@ static STEPS: [Call; 5] = [
 /// More steps than any of the walks takes.
 const MOST_STEPS: u32 = 40;
 
-fn done(is_done: bool) -> Answer<'static> {
+fn done<'a>(is_done: bool) -> Answer<'a> {
     if is_done {
-        Answer::Done
+        Answer::Truth(true)
     } else {
         Answer::Nothing
     }
@@ -68,12 +68,12 @@ fn ask<'a>(cursor: &mut Cursor<'a>, call: Call) -> Answer<'a> {
     match call {
         Call::Value => match cursor.value() {
             Some(Item::Int(number)) => Answer::Int(number),
-            Some(Item::Bool(truth)) => Answer::Bool(truth),
+            Some(Item::Bool(truth)) => Answer::Truth(truth),
             Some(Item::Text(text)) => Answer::Text(text),
             None => Answer::Nothing,
         },
         Call::Branch => match cursor.branch() {
-            Some(taken) => Answer::Taken(taken),
+            Some(taken) => Answer::Truth(taken),
             None => Answer::Nothing,
         },
         Call::Rows => match cursor.rows() {
@@ -91,75 +91,84 @@ fn ask<'a>(cursor: &mut Cursor<'a>, call: Call) -> Answer<'a> {
 }
 
 /// Whether the calls, made one after the other, are answered alike.
-fn agree(
-    cursor: &mut Cursor<'_>,
-    opened: &mut Opened<'_>,
-    calls: &[Call],
-) -> Result<bool, AllocError> {
+fn agree(cursor: &mut Cursor<'_>, opened: &mut Opened<'_>, calls: &[Call]) -> bool {
     for call in calls {
-        if ask(cursor, *call) != opened.ask(*call)? {
-            return Ok(false);
+        if ask(cursor, *call) != opened.ask(*call) {
+            return false;
         }
     }
-    Ok(true)
+    true
 }
 
-/// Whether a call is answered alike behind these steps, and so are the calls after it, to the end of the walk.
-fn agree_at(
-    alloc: Global,
-    forest: &Forest<'_>,
-    root: &Node,
-    steps: &[Call],
-    call: Call,
-) -> Result<bool, AllocError> {
-    let mut cursor = forest.cursor();
-    let mut opened = Opened::new(alloc, root)?;
-    if !agree(&mut cursor, &mut opened, steps)? || !agree(&mut cursor, &mut opened, &[call])? {
-        return Ok(false);
-    }
-    for _ in 0..MOST_STEPS {
-        if !agree(&mut cursor, &mut opened, &CALLS[..6])? {
-            return Ok(false);
-        }
-    }
-    Ok(true)
-}
-
-/// The step by which a walk goes on, which is taken; None at the walk's end.
-fn next_step(opened: &mut Opened<'_>) -> Result<Option<Call>, AllocError> {
+/// The step by which a walk goes on, which is taken, and its answer; None at the walk's end.
+fn next_step<'a>(opened: &mut Opened<'a>) -> Option<(Call, Answer<'a>)> {
     for step in &STEPS {
-        if opened.ask(*step)? != Answer::Nothing {
-            return Ok(Some(*step));
+        let answer = opened.ask(*step);
+        if answer != Answer::Nothing {
+            return Some((*step, answer));
         }
     }
-    Ok(None)
+    None
 }
 
-/// Whether each call is answered alike at each place of the walk of the forest of these digits.
-fn agree_everywhere(alloc: Global, digits: &str) -> Result<bool, Fail> {
-    let payload = bytes_of(alloc, digits)?;
-    let root = decode_forest(alloc, payload.as_slice())?;
-    let forest = scan_forest(payload.as_slice())?;
-    let mut guide = Opened::new(alloc, &root)?;
-    let mut steps = Vec::new(alloc);
+/// Whether a call is answered alike behind so many steps, and so are the calls after it, to the end of the walk.
+fn agree_at(forest: &Forest<'_>, root: &Node, steps: u32, call: Call) -> bool {
+    let mut cursor = forest.cursor();
+    let mut opened = Opened::new(root);
+    for _ in 0..steps {
+        let Some((step, answer)) = next_step(&mut opened) else {
+            return false;
+        };
+        if ask(&mut cursor, step) != answer {
+            return false;
+        }
+    }
+    if !agree(&mut cursor, &mut opened, &[call]) {
+        return false;
+    }
     for _ in 0..MOST_STEPS {
+        if !agree(&mut cursor, &mut opened, &CALLS[..6]) {
+            return false;
+        }
+    }
+    true
+}
+
+/// Whether each call is answered alike at each place of the walk of a forest.
+fn agree_everywhere(payload: &[u8], root: &Node) -> bool {
+    let Ok(forest) = scan_forest(payload) else {
+        return false;
+    };
+    let mut guide = Opened::new(root);
+    for steps in 0..MOST_STEPS {
         for call in &CALLS {
-            if !agree_at(alloc, &forest, &root, steps.as_slice(), *call)? {
-                return Ok(false);
+            if !agree_at(&forest, root, steps, *call) {
+                return false;
             }
         }
-        match next_step(&mut guide)? {
-            Some(step) => steps.push(step)?,
-            None => return Ok(true),
+        if next_step(&mut guide).is_none() {
+            return true;
         }
     }
-    Ok(false)
+    false
+}
+
+/// Fails unless so it is with each forest.
+fn all_agree(alloc: Global, forests: &[&str]) -> Result<(), Fail> {
+    for digits in forests {
+        let payload = bytes_of(alloc, digits)?;
+        let agree = match &decode_forest(alloc, payload.as_slice()) {
+            Ok(root) => agree_everywhere(payload.as_slice(), root),
+            Err(_) => false,
+        };
+        if !agree {
+            return Err(Fail::new(format_args!("{digits}")));
+        }
+    }
+    Ok(())
 }
 
 #[test]
 fn each_call_is_answered_as_the_tree_has_it(rt: HostRuntime) -> Result<(), Fail> {
-    for digits in &FORESTS {
-        assert!(rt; agree_everywhere(rt.alloc(), digits)?, "{digits}");
-    }
-    Ok(())
+    all_agree(rt.alloc(), &FORESTS)
 }

@@ -1,10 +1,11 @@
 // Walks of forests in their bytes: what is taken.
 
-use crate::forest::digits::bytes_of;
+use crate::digits::bytes_of;
 use crate::forest::forests::ALL_FORMS;
 use crate::forest::version_two::spellings::ALL_FORMS as SHORT_FORMS;
 use rb_wire_forest::{Cursor, Item, scan_forest};
 use std::alloc::Global;
+use std::fmt::Write;
 use std::test::Fail;
 
 /// Forests, and what their walks tell: each value; each branch, and the Rows with their number of nodes, which are open up to
@@ -51,32 +52,37 @@ static WALKS: [(&str, &str); 11] = [
 /// More steps than any of the walks takes.
 const MOST_STEPS: u32 = 100;
 
-/// Tells of the next entry, or of the next node of a Rows, which is taken.
-fn tell_entry(alloc: Global, cursor: &mut Cursor<'_>, told: &mut String) -> Result<bool, Fail> {
-    let shown = if let Some(taken) = cursor.branch() {
-        format!(in alloc; " {taken}(")?
-    } else if let Some(nodes) = cursor.rows() {
-        format!(in alloc; " {nodes}(")?
-    } else if cursor.turn() {
-        format!(in alloc; " (")?
-    } else {
-        match cursor.value() {
-            Some(Item::Int(number)) => format!(in alloc; " {number}")?,
-            Some(Item::Bool(truth)) => format!(in alloc; " {truth}")?,
-            Some(Item::Text(text)) => format!(in alloc; " {}", str::from_utf8(text)?)?,
-            None => return Ok(false),
-        }
+/// Tells of a value.
+fn tell_value(item: Item<'_>, told: &mut String) -> Result<(), Fail> {
+    let added = match item {
+        Item::Int(number) => write!(told, " {number}"),
+        Item::Bool(truth) => write!(told, " {truth}"),
+        Item::Text(text) => write!(told, " {}", str::from_utf8(text).unwrap_or("no letters")),
     };
-    told.push_str(shown.as_str())?;
+    Ok(added?)
+}
+
+/// Tells of the next entry, or of the next node of a Rows, which is taken.
+fn tell_entry(cursor: &mut Cursor<'_>, told: &mut String) -> Result<bool, Fail> {
+    if let Some(taken) = cursor.branch() {
+        write!(told, " {taken}(")?;
+    } else if let Some(nodes) = cursor.rows() {
+        write!(told, " {nodes}(")?;
+    } else if cursor.turn() {
+        told.push_str(" (")?;
+    } else if let Some(item) = cursor.value() {
+        tell_value(item, told)?;
+    } else {
+        return Ok(false);
+    }
     Ok(true)
 }
 
 /// Tells of the end of the innermost, which is closed; false at the root's end.
-fn tell_end(alloc: Global, cursor: &mut Cursor<'_>, told: &mut String) -> Result<bool, Fail> {
+fn tell_end(cursor: &mut Cursor<'_>, told: &mut String) -> Result<bool, Fail> {
     if let Some(fault) = cursor.fault() {
-        let text = str::from_utf8(fault.text)?;
-        let shown = format!(in alloc; " {}@{}:{}{text}", fault.step, fault.at, fault.code)?;
-        told.push_str(shown.as_str())?;
+        let text = str::from_utf8(fault.text).unwrap_or("no letters");
+        write!(told, " {}@{}:{}{text}", fault.step, fault.at, fault.code)?;
     }
     if !cursor.leave() {
         return Ok(false);
@@ -85,29 +91,34 @@ fn tell_end(alloc: Global, cursor: &mut Cursor<'_>, told: &mut String) -> Result
     Ok(true)
 }
 
-/// What the walk of the payload of these digits tells.
-fn walk(alloc: Global, digits: &str) -> Result<String, Fail> {
-    let payload = bytes_of(alloc, digits)?;
-    let mut told = String::new(alloc);
-    let Ok(forest) = scan_forest(payload.as_slice()) else {
-        return Ok(told);
+/// Adds what the walk of a payload tells.
+fn walk(payload: &[u8], told: &mut String) -> Result<(), Fail> {
+    let Ok(forest) = scan_forest(payload) else {
+        return Ok(());
     };
     let mut cursor = forest.cursor();
     for _ in 0..MOST_STEPS {
-        if !tell_entry(alloc, &mut cursor, &mut told)?
-            && !tell_end(alloc, &mut cursor, &mut told)?
-        {
+        if !tell_entry(&mut cursor, told)? && !tell_end(&mut cursor, told)? {
             break;
         }
     }
-    Ok(told)
+    Ok(())
+}
+
+/// Fails unless the walk of each payload tells what stands beside it.
+fn walks_are(alloc: Global, rows: &[(&str, &str)]) -> Result<(), Fail> {
+    for (digits, wanted) in rows {
+        let payload = bytes_of(alloc, digits)?;
+        let mut told = String::new(alloc);
+        walk(payload.as_slice(), &mut told)?;
+        if told.as_str() != *wanted {
+            return Err(Fail::new(format_args!("{digits}: {told}")));
+        }
+    }
+    Ok(())
 }
 
 #[test]
 fn a_cursor_takes_each_entry_where_it_stands(rt: HostRuntime) -> Result<(), Fail> {
-    for (digits, wanted) in &WALKS {
-        let told = walk(rt.alloc(), digits)?;
-        assert!(rt; told.as_str() == *wanted, "{digits}: {told}");
-    }
-    Ok(())
+    walks_are(rt.alloc(), &WALKS)
 }

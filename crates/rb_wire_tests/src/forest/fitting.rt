@@ -1,8 +1,9 @@
 // Nodes that fit a remainder, and nodes that don't.
 
-use crate::forest::digits::add_bytes;
+use crate::digits::add_bytes;
+use crate::parts::{Make, remainder};
 use bytes::BytesMut;
-use rb_trees::{Expr, ExprForm, Memory, Part, Seq, Stmt, StmtForm, Version};
+use rb_trees::{Part, Seq, Version};
 use rb_wire_forest::{Misfit, decode_forest, encode_forest, fits, scan_forest};
 use std::alloc::{AllocError, Global};
 use std::test::Fail;
@@ -15,6 +16,36 @@ const EXTRA: i64 = -2;
 
 /// That a node fits.
 const FITS: i64 = -1;
+
+/// A loop that takes a remote Int; a step without an entry; a branch with such a loop, or with a kept Bool; a loop over Ints,
+/// with such a loop in each turn; a value that both sides evaluate.
+static REMAINDER: [Make; 12] = [
+    Make::Block,
+    Make::Loop(&[(0, 1)]),
+    Make::Pass(1),
+    Make::Block,
+    Make::Loop(&[(3, 1)]),
+    Make::Block,
+    Make::Bind(4, "", 2),
+    Make::Branch(2),
+    Make::Block,
+    Make::Loop(&[(6, 1)]),
+    Make::Turns(5, "", 1),
+    Make::Both(7, ""),
+];
+
+/// A loop over the second input, with a loop that takes a remote Int and a branch in each turn.
+static LIST: [Make; 9] = [
+    Make::Block,
+    Make::Block,
+    Make::Loop(&[(6, 1)]),
+    Make::Block,
+    Make::Loop(&[(3, 1)]),
+    Make::Block,
+    Make::Bind(4, "", 2),
+    Make::Branch(2),
+    Make::Over(5, "", "", 1),
+];
 
 /// Forests in letters, each with what doesn't fit: a step, or that something is left over. An `i` is an Int, a `t` a Bool,
 /// `y` and `n` are branches, `r` rows, digits counts, a point the end of a node without a fault, and the letters from A on
@@ -127,83 +158,9 @@ fn payload_of(alloc: Global, letters: &str) -> Result<Vec<u8>, AllocError> {
     let mut payload = Vec::new(alloc);
     payload.push(1)?;
     for letter in letters.as_bytes() {
-        add_bytes(&mut payload, spelling(*letter))?;
+        add_bytes(&mut payload, spelling(*letter), 0)?;
     }
     Ok(payload)
-}
-
-/// Adds the part of a print of a remote Int.
-fn add_print(alloc: Global, step: u32, into: &mut Seq<Part>) -> Result<(), Memory> {
-    let mut takes = Seq::new(alloc);
-    takes.push((step, 1))?;
-    let form = StmtForm::Print(Expr {
-        at: 0,
-        form: ExprForm::Taken(step),
-    });
-    into.push(Part::Plain(Stmt { at: 0, form }, takes))
-}
-
-/// Adds a branch with a print, or with a kept Bool.
-fn add_branch(alloc: Global, into: &mut Seq<Part>) -> Result<(), Memory> {
-    let mut yes = Seq::new(alloc);
-    add_print(alloc, 3, &mut yes)?;
-    let mut no = Seq::new(alloc);
-    no.push(Part::Bind {
-        step: 4,
-        name: Seq::new(alloc),
-        kind: 2,
-    })?;
-    into.push(Part::Branch { step: 2, yes, no })
-}
-
-/// Adds a loop over Ints, with a print in each turn.
-fn add_turns(alloc: Global, into: &mut Seq<Part>) -> Result<(), Memory> {
-    let mut body = Seq::new(alloc);
-    add_print(alloc, 6, &mut body)?;
-    into.push(Part::Turns {
-        step: 5,
-        name: Seq::new(alloc),
-        kind: 1,
-        body,
-    })
-}
-
-/// Adds a loop over the second input, with a print and a branch in each turn.
-fn add_list(alloc: Global, into: &mut Seq<Part>) -> Result<(), Memory> {
-    let mut body = Seq::new(alloc);
-    add_print(alloc, 6, &mut body)?;
-    add_branch(alloc, &mut body)?;
-    into.push(Part::Over {
-        step: 5,
-        at: 0,
-        name: Seq::new(alloc),
-        list: Seq::new(alloc),
-        input: 1,
-        body,
-    })
-}
-
-/// Adds a value that both sides evaluate.
-fn add_both(alloc: Global, into: &mut Seq<Part>) -> Result<(), Memory> {
-    let value = Expr {
-        at: 0,
-        form: ExprForm::This,
-    };
-    into.push(Part::Both {
-        step: 7,
-        at: 0,
-        name: Seq::new(alloc),
-        value,
-    })
-}
-
-/// Adds the print of a remote Int; a step without an entry; the branch; the loop; the value of both sides.
-fn add_remainder(alloc: Global, into: &mut Seq<Part>) -> Result<(), Memory> {
-    add_print(alloc, 0, into)?;
-    into.push(Part::Pass(1))?;
-    add_branch(alloc, into)?;
-    add_turns(alloc, into)?;
-    add_both(alloc, into)
 }
 
 /// What doesn't fit.
@@ -215,50 +172,60 @@ fn told(fit: Result<(), Misfit>) -> i64 {
     }
 }
 
-/// What doesn't fit of a forest. It is the same as a tree, in its bytes, and in its bytes of version 2.
-fn misfit(alloc: Global, parts: &Seq<Part>, lengths: &[u32], payload: &[u8]) -> Result<i64, Fail> {
-    let root = decode_forest(alloc, payload)?;
-    let mut other = BytesMut::new(alloc);
-    encode_forest(&root, Version::Two, &mut other)?;
-    let fit = told(fits(&root, parts, lengths));
-    let first = told(scan_forest(payload)?.fits(parts, lengths));
-    let second = told(scan_forest(other.as_slice())?.fits(parts, lengths));
-    Ok(if first == fit && second == fit {
-        fit
-    } else {
-        DISPUTED
-    })
+/// What doesn't fit of a forest in its bytes.
+fn scanned(parts: &Seq<Part>, lengths: &[u32], payload: &[u8]) -> i64 {
+    match scan_forest(payload) {
+        Ok(forest) => told(forest.fits(parts, lengths)),
+        Err(_) => DISPUTED,
+    }
 }
 
-/// The first of these forests of which something else doesn't fit than what stands beside it; no letters where there is none.
-fn first_wrong(
+/// What doesn't fit of a forest. It is the same as a tree, in its bytes, and in its bytes of version 2.
+fn misfit(alloc: Global, parts: &Seq<Part>, lengths: &[u32], payload: &[u8]) -> Result<i64, Fail> {
+    match &decode_forest(alloc, payload) {
+        Ok(root) => {
+            let mut other = BytesMut::new(alloc);
+            encode_forest(root, Version::Two, &mut other)?;
+            let fit = told(fits(root, parts, lengths));
+            let same = scanned(parts, lengths, payload) == fit
+                && scanned(parts, lengths, other.as_slice()) == fit;
+            Ok(if same { fit } else { DISPUTED })
+        }
+        Err(stop) => Err(Fail::new(format_args!("{stop}"))),
+    }
+}
+
+/// Fails unless of each forest that doesn't fit which stands beside it.
+fn misfits_are(
     alloc: Global,
     parts: &Seq<Part>,
     lengths: &[u32],
-    rows: &[(&'static str, i64)],
-) -> Result<&'static str, Fail> {
+    rows: &[(&str, i64)],
+) -> Result<(), Fail> {
     for (letters, unfit) in rows {
         let payload = payload_of(alloc, letters)?;
-        if misfit(alloc, parts, lengths, payload.as_slice())? != *unfit {
-            return Ok(letters);
+        let found = misfit(alloc, parts, lengths, payload.as_slice())?;
+        if found != *unfit {
+            return Err(Fail::new(format_args!("{found} in place of {unfit}, of {letters}")));
         }
     }
-    Ok("")
+    Ok(())
+}
+
+/// The same of a remainder that is made so.
+fn made_misfits_are(
+    alloc: Global,
+    makes: &[Make],
+    lengths: &[u32],
+    rows: &[(&str, i64)],
+) -> Result<(), Fail> {
+    let parts = remainder(alloc, makes)?;
+    misfits_are(alloc, &parts, lengths, rows)
 }
 
 #[test]
 fn the_first_misfit_is_answered(rt: HostRuntime) -> Result<(), Fail> {
-    let mut parts = Seq::new(rt.alloc());
-    add_remainder(rt.alloc(), &mut parts)?;
-    assert_eq!(rt; first_wrong(rt.alloc(), &parts, &[], &ROWS)?, "");
-    Ok(())
-}
-
-#[test]
-fn a_list_has_a_turn_for_each_item(rt: HostRuntime) -> Result<(), Fail> {
-    let mut parts = Seq::new(rt.alloc());
-    add_list(rt.alloc(), &mut parts)?;
-    assert_eq!(rt; first_wrong(rt.alloc(), &parts, &[7, 2], &LISTS)?, "");
-    assert_eq!(rt; first_wrong(rt.alloc(), &parts, &[7], &UNTOLD)?, "");
-    Ok(())
+    made_misfits_are(rt.alloc(), &REMAINDER, &[], &ROWS)?;
+    made_misfits_are(rt.alloc(), &LIST, &[7, 2], &LISTS)?;
+    made_misfits_are(rt.alloc(), &LIST, &[7], &UNTOLD)
 }

@@ -1,6 +1,6 @@
 // Payloads that spell forests.
 
-use crate::forest::digits::bytes_of;
+use crate::payloads::{DISPUTED, OTHER, Reader, TAKEN, Told, are_spellings};
 use crate::versions::version_of;
 use bytes::BytesMut;
 use rb_wire_forest::{ForestRefusal, ForestStop, decode_forest, encode_forest, scan_forest};
@@ -27,77 +27,36 @@ static FORESTS: [&str; 11] = [
     ALL_FORMS,
 ];
 
-/// What is told of a payload that spells a forest, and is its spelling.
-pub const FOREST: (u8, u64) = (0, 0);
-
-/// What is told of a payload that spells a forest with another spelling.
-const OTHER: (u8, u64) = (0, 1);
-
-/// What is told of a payload that a scan and a decoder judge differently.
-const DISPUTED: (u8, u64) = (0, 2);
-
-/// The number and the place of a payload's first violation by a scan.
-fn scanned(payload: &[u8]) -> (u8, u64) {
+/// What a scan tells of a payload.
+fn scanned(payload: &[u8]) -> Told {
     match scan_forest(payload) {
-        Ok(_) => FOREST,
-        Err(ForestRefusal { number, at }) => (number, at),
+        Ok(_) => TAKEN,
+        Err(ForestRefusal { number, at }) => (u32::from(number), at),
     }
 }
 
-/// The number and the place of a payload's first violation, or whether it is the spelling of its forest. A scan tells the same.
-pub fn told(alloc: Global, payload: &[u8]) -> Result<(u8, u64), Fail> {
-    let decoded = decoded(alloc, payload)?;
-    Ok(if scanned(payload) == decoded {
-        decoded
-    } else {
-        DISPUTED
-    })
-}
-
-/// The number and the place of a payload's first violation by a decoder, or whether it is the spelling of its forest.
-fn decoded(alloc: Global, payload: &[u8]) -> Result<(u8, u64), Fail> {
-    match decode_forest(alloc, payload) {
+/// What a decoder tells of a payload.
+fn decoded(alloc: Global, payload: &[u8]) -> Result<Told, Fail> {
+    match &decode_forest(alloc, payload) {
         Ok(root) => {
             let mut again = BytesMut::new(alloc);
-            encode_forest(&root, version_of(payload), &mut again)?;
-            Ok(if again.as_slice() == payload {
-                FOREST
-            } else {
-                OTHER
-            })
+            encode_forest(root, version_of(payload), &mut again)?;
+            let same = again.as_slice() == payload;
+            Ok(if same { TAKEN } else { OTHER })
         }
-        Err(ForestStop::Refused { number, at }) => Ok((number, at)),
-        Err(stop) => Err(Fail::from(stop)),
+        Err(ForestStop::Refused { number, at }) => Ok((u32::from(*number), *at)),
+        Err(stop) => Err(Fail::new(format_args!("{stop}"))),
     }
 }
 
-/// Whether this is told of the payload of these digits.
-pub fn tells(alloc: Global, digits: &str, wanted: (u8, u64)) -> Result<bool, Fail> {
-    let payload = bytes_of(alloc, digits)?;
-    Ok(told(alloc, payload.as_slice())? == wanted)
-}
-
-/// Whether each payload that lacks bytes at the end of this one is truncated at its own end.
-pub fn tells_cuts(alloc: Global, payload: &[u8]) -> Result<bool, Fail> {
-    for n in 0..payload.len() {
-        if told(alloc, &payload[..n])? != (1, n as u64) {
-            return Ok(false);
-        }
-    }
-    Ok(true)
+/// What is told of a payload that is read as a forest. A scan and a decoder have to tell the same.
+pub fn told(alloc: Global, payload: &[u8]) -> Result<Told, Fail> {
+    let decoded = decoded(alloc, payload)?;
+    let same = scanned(payload) == decoded;
+    Ok(if same { decoded } else { DISPUTED })
 }
 
 #[test]
-fn forests_are_spelled_as_they_were_read(rt: HostRuntime) -> Result<(), Fail> {
-    for digits in &FORESTS {
-        assert!(rt; tells(rt.alloc(), digits, FOREST)?, "{digits}");
-    }
-    Ok(())
-}
-
-#[test]
-fn a_forest_that_is_cut_short_is_truncated_there(rt: HostRuntime) -> Result<(), Fail> {
-    let payload = bytes_of(rt.alloc(), ALL_FORMS)?;
-    assert!(rt; tells_cuts(rt.alloc(), payload.as_slice())?);
-    Ok(())
+fn a_forest_is_its_spelling_and_is_truncated_where_it_is_cut(rt: HostRuntime) -> Result<(), Fail> {
+    are_spellings(rt.alloc(), Reader::Forest, &FORESTS)
 }

@@ -1,7 +1,6 @@
 // What is open in a forest that is walked, by the forest's tree.
 
 use rb_trees::{Entry, Node, NodeFault, Value};
-use std::alloc::{AllocError, Global};
 
 /// A call of a cursor.
 #[derive(Clone, Copy)]
@@ -20,13 +19,10 @@ pub enum Call {
 pub enum Answer<'a> {
     /// None or false.
     Nothing,
-    /// True.
-    Done,
+    /// True, a value, or which branch was taken.
+    Truth(bool),
     Int(i64),
-    Bool(bool),
     Text(&'a [u8]),
-    /// Which branch was taken.
-    Taken(bool),
     /// The number of nodes of a Rows.
     Nodes(usize),
     /// The step, the position, the code and the text of a fault.
@@ -40,140 +36,113 @@ enum Open<'a> {
     Rows(&'a [Node]),
 }
 
-/// What is open of a forest, the innermost last.
-#[derive(Drop)]
+/// More nodes and Rows within each other than any forest of the tests has.
+const MOST_OPEN: usize = 16;
+
+/// What is open of a forest: the root is the first, and the innermost stands at `depth`.
+#[derive(Clone, Copy)]
 pub struct Opened<'a> {
-    open: Vec<Open<'a>>,
+    open: [Open<'a>; MOST_OPEN],
+    depth: usize,
+}
+
+/// The node with all its entries.
+fn whole<'a>(node: &'a Node) -> Open<'a> {
+    Open::Node(node.entries.as_slice(), &node.fault)
+}
+
+/// The answer with a value.
+fn value<'a>(value: &'a Value) -> Answer<'a> {
+    match value {
+        Value::Int(number) => Answer::Int(*number),
+        Value::Bool(truth) => Answer::Truth(*truth),
+        Value::Text(text) => Answer::Text(text.get().as_slice()),
+        _ => Answer::Nothing,
+    }
+}
+
+/// What a call answers that takes this entry, and what it opens. None where the entry has another form.
+fn entry<'a>(entry: &'a Entry, call: Call) -> Option<(Answer<'a>, Option<Open<'a>>)> {
+    match (entry, call) {
+        (Entry::Value(given), Call::Value) => Some((value(given), None)),
+        (Entry::Branch(taken, node), Call::Branch) => {
+            Some((Answer::Truth(*taken), Some(whole(node))))
+        }
+        (Entry::Rows(nodes), Call::Rows) => {
+            Some((
+                Answer::Nodes(nodes.len()),
+                Some(Open::Rows(nodes.as_slice())),
+            ))
+        }
+        _ => None,
+    }
+}
+
+/// What a call answers that takes the first of what is left, what is left then, and what it opens.
+fn first<'a>(open: Open<'a>, call: Call) -> Option<(Answer<'a>, Open<'a>, Option<Open<'a>>)> {
+    match (open, call) {
+        (Open::Node([next, rest @ ..], fault), _) => match entry(next, call) {
+            Some((answer, opened)) => Some((answer, Open::Node(rest, fault), opened)),
+            None => None,
+        },
+        (Open::Rows([node, rest @ ..]), Call::Turn) => {
+            Some((Answer::Truth(true), Open::Rows(rest), Some(whole(node))))
+        }
+        _ => None,
+    }
 }
 
 impl<'a> Opened<'a> {
     /// The root is open.
-    pub fn new(alloc: Global, root: &'a Node) -> Result<Opened<'a>, AllocError> {
-        let mut open = Vec::new(alloc);
-        open.push(Open::Node(root.entries.as_slice(), &root.fault))?;
-        Ok(Opened { open })
+    pub fn new(root: &'a Node) -> Opened<'a> {
+        Opened {
+            open: [whole(root); MOST_OPEN],
+            depth: 0,
+        }
     }
 
     /// What a call answers here. What it takes or opens is taken or opened.
-    pub fn ask(&mut self, call: Call) -> Result<Answer<'a>, AllocError> {
-        match call {
-            Call::Value => self.take_value(),
-            Call::Branch => self.take_branch(),
-            Call::Rows => self.take_rows(),
-            Call::Turn => self.open_turn(),
-            Call::Fault => Ok(self.fault()),
-            Call::Leave => Ok(self.leave()),
-            Call::Close => Ok(self.close()),
-        }
-    }
-
-    fn innermost(&self) -> Option<Open<'a>> {
-        match self.open.last() {
-            Some(open) => Some(*open),
-            None => None,
-        }
-    }
-
-    /// The innermost is left so.
-    fn leave_so(&mut self, open: Open<'a>) -> Result<(), AllocError> {
-        self.open.pop();
-        self.open.push(open)?;
-        Ok(())
-    }
-
-    fn open_node(&mut self, node: &'a Node) -> Result<(), AllocError> {
-        self.open
-            .push(Open::Node(node.entries.as_slice(), &node.fault))?;
-        Ok(())
-    }
-
-    /// The next entry of the innermost node, and the node without it.
-    fn first(&self) -> Option<(&'a Entry, Open<'a>)> {
-        match self.innermost()? {
-            Open::Node(entries, fault) => {
-                let (first, rest) = entries.split_first()?;
-                Some((first, Open::Node(rest, fault)))
+    pub fn ask(&mut self, call: Call) -> Answer<'a> {
+        let Some(open) = self.open.get(self.depth) else {
+            return Answer::Nothing;
+        };
+        let open = *open;
+        match (call, open) {
+            (Call::Fault, Open::Node([], Some(fault))) => {
+                let text = fault.fault.text.as_slice();
+                Answer::Fault(fault.step, fault.at, fault.fault.code, text)
             }
-            Open::Rows(_) => None,
+            (Call::Close, _) | (Call::Leave, Open::Node([], _) | Open::Rows([])) => self.close(),
+            _ => self.take(open, call),
         }
     }
 
-    fn take_value(&mut self) -> Result<Answer<'a>, AllocError> {
-        let Some((Entry::Value(value), rest)) = self.first() else {
-            return Ok(Answer::Nothing);
-        };
-        self.leave_so(rest)?;
-        Ok(match value {
-            Value::Int(number) => Answer::Int(*number),
-            Value::Bool(truth) => Answer::Bool(*truth),
-            Value::Text(text) => Answer::Text(text.get().as_slice()),
-            _ => Answer::Nothing,
-        })
+    /// The innermost is now so.
+    fn put(&mut self, open: Open<'a>) {
+        let depth = self.depth;
+        if let Some(place) = self.open.get_mut(depth) {
+            *place = open;
+        }
     }
 
-    fn take_branch(&mut self) -> Result<Answer<'a>, AllocError> {
-        let Some((Entry::Branch(taken, node), rest)) = self.first() else {
-            return Ok(Answer::Nothing);
-        };
-        self.leave_so(rest)?;
-        self.open_node(node)?;
-        Ok(Answer::Taken(*taken))
-    }
-
-    fn take_rows(&mut self) -> Result<Answer<'a>, AllocError> {
-        let Some((Entry::Rows(nodes), rest)) = self.first() else {
-            return Ok(Answer::Nothing);
-        };
-        self.leave_so(rest)?;
-        self.open.push(Open::Rows(nodes.as_slice()))?;
-        Ok(Answer::Nodes(nodes.len()))
-    }
-
-    fn open_turn(&mut self) -> Result<Answer<'a>, AllocError> {
-        let Some(Open::Rows(nodes)) = self.innermost() else {
-            return Ok(Answer::Nothing);
-        };
-        let Some((node, rest)) = nodes.split_first() else {
-            return Ok(Answer::Nothing);
-        };
-        self.leave_so(Open::Rows(rest))?;
-        self.open_node(node)?;
-        Ok(Answer::Done)
-    }
-
-    fn fault(&self) -> Answer<'a> {
-        let Some(Open::Node([], Some(fault))) = self.innermost() else {
+    /// Takes the first of what is left of the innermost.
+    fn take(&mut self, open: Open<'a>, call: Call) -> Answer<'a> {
+        let Some((answer, rest, opened)) = first(open, call) else {
             return Answer::Nothing;
         };
-        Answer::Fault(
-            fault.step,
-            fault.at,
-            fault.fault.code,
-            fault.fault.text.as_slice(),
-        )
-    }
-
-    /// Whether something is left of the innermost.
-    fn has_more(&self) -> bool {
-        match self.innermost() {
-            Some(Open::Node(entries, _)) => !entries.is_empty(),
-            Some(Open::Rows(nodes)) => !nodes.is_empty(),
-            None => false,
+        self.put(rest);
+        if let Some(inner) = opened {
+            self.depth = self.depth.saturating_add(1);
+            self.put(inner);
         }
-    }
-
-    fn leave(&mut self) -> Answer<'a> {
-        if self.has_more() {
-            return Answer::Nothing;
-        }
-        self.close()
+        answer
     }
 
     fn close(&mut self) -> Answer<'a> {
-        if self.open.len() < 2 {
+        if self.depth == 0 {
             return Answer::Nothing;
         }
-        self.open.pop();
-        Answer::Done
+        self.depth -= 1;
+        Answer::Truth(true)
     }
 }

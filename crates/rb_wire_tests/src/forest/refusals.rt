@@ -1,6 +1,6 @@
 // Refusals as bytes, both ways.
 
-use crate::forest::digits::bytes_of;
+use crate::payloads::{OTHER, Reader, Row, TAKEN, Told, rows_are_told};
 use crate::versions::version_of;
 use bytes::BytesMut;
 use rb_trees::{Memory, Version};
@@ -9,7 +9,7 @@ use std::alloc::Global;
 use std::test::Fail;
 
 /// Payloads with the number and the place of the refusal that they spell, 0 where they spell none.
-static ROWS: [(&str, u8, u32); 21] = [
+static ROWS: [Row; 21] = [
     ("01 01 00000005", 1, 5),
     ("01 02 00000000", 2, 0),
     ("01 03 00000102", 3, 258),
@@ -33,9 +33,6 @@ static ROWS: [(&str, u8, u32); 21] = [
     ("01 00000000 00", 0, 0),
 ];
 
-/// What is told of a payload that spells a refusal with another spelling.
-const OTHER: (u8, u32) = (0, 1);
-
 /// Appends the spelling of a refusal in a version that has its number.
 fn spell(version: Version, number: u8, at: u32, into: &mut BytesMut) -> Result<(), Memory> {
     match version {
@@ -54,26 +51,21 @@ fn spell(version: Version, number: u8, at: u32, into: &mut BytesMut) -> Result<(
 }
 
 /// The refusal of a payload, which has to be its spelling.
-fn told(alloc: Global, payload: &[u8]) -> Result<(u8, u32), Fail> {
-    let (number, at) = decode_refusal(payload).unwrap_or((0, 0));
+pub fn told(alloc: Global, payload: &[u8]) -> Result<Told, Fail> {
+    let Some((number, at)) = decode_refusal(payload) else {
+        return Ok(TAKEN);
+    };
     let mut again = BytesMut::new(alloc);
     spell(version_of(payload), number, at, &mut again)?;
-    if number != 0 && again.as_slice() != payload {
-        return Ok(OTHER);
-    }
-    Ok((number, at))
-}
-
-/// Whether this is told of the payload of these digits.
-pub fn tells(alloc: Global, digits: &str, wanted: (u8, u32)) -> Result<bool, Fail> {
-    let payload = bytes_of(alloc, digits)?;
-    Ok(told(alloc, payload.as_slice())? == wanted)
+    let same = number == 0 || again.as_slice() == payload;
+    Ok(if same {
+        (u32::from(number), u64::from(at))
+    } else {
+        OTHER
+    })
 }
 
 #[test]
 fn refusals_are_read_and_spelled(rt: HostRuntime) -> Result<(), Fail> {
-    for (digits, number, at) in &ROWS {
-        assert!(rt; tells(rt.alloc(), digits, (*number, *at))?, "{digits}");
-    }
-    Ok(())
+    rows_are_told(rt.alloc(), Reader::Refusal, &ROWS)
 }

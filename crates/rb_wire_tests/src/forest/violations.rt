@@ -1,9 +1,9 @@
 // Payloads that spell no forest, each with the number and the place of its first violation.
 
-use crate::forest::forests::tells;
+use crate::payloads::{Reader, Row, rows_are_told};
 use std::test::Fail;
 
-static ROWS: [(&str, u8, u64); 39] = [
+static ROWS: [Row; 39] = [
     // Nothing, and a version that isn't known.
     ("", 1, 0),
     ("00", 2, 0),
@@ -59,8 +59,5 @@ static ROWS: [(&str, u8, u64); 39] = [
 
 #[test]
 fn the_first_violation_is_answered(rt: HostRuntime) -> Result<(), Fail> {
-    for (digits, number, at) in &ROWS {
-        assert!(rt; tells(rt.alloc(), digits, (*number, *at))?, "{digits}");
-    }
-    Ok(())
+    rows_are_told(rt.alloc(), Reader::Forest, &ROWS)
 }

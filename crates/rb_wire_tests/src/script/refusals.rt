@@ -1,13 +1,9 @@
 // Payloads that are refused, each with the number and the place of its refusal.
 
-use crate::script::payloads::{ALL_FORMS, bytes_of};
-use crate::versions::version_of;
-use bytes::BytesMut;
-use rb_wire_script::{ScriptStop, decode_script, encode_script};
-use std::alloc::Global;
+use crate::payloads::{Reader, Row, rows_are_told};
 use std::test::Fail;
 
-static ROWS: [(&str, u8, u32); 38] = [
+static ROWS: [Row; 38] = [
     // Nothing, and a version that isn't known.
     ("", 1, 0),
     ("07", 2, 0),
@@ -100,79 +96,7 @@ static ROWS: [(&str, u8, u32); 38] = [
     ),
 ];
 
-/// The number and the place of a refusal. None where the payload is taken.
-pub fn refused(alloc: Global, payload: &[u8]) -> Option<(u8, u32)> {
-    if payload.len() > 16_777_216 {
-        return None;
-    }
-    match decode_script(alloc, payload) {
-        Err(ScriptStop::Refused { number, at, .. }) => Some((number, at)),
-        _ => None,
-    }
-}
-
-/// What is told of a payload that is taken, and is the spelling of its script.
-const TAKEN: (u8, u32) = (0, 0);
-
-/// What is told of a payload that is taken, and is another spelling than that of its script.
-const OTHER: (u8, u32) = (0, 1);
-
-/// What is told of a refusal that names another version than that of the payload.
-const DISPUTED: (u8, u32) = (0, 2);
-
-/// The number and the place of a payload's refusal, or whether it is the spelling of its script.
-pub fn told(alloc: Global, payload: &[u8]) -> Result<(u8, u32), Fail> {
-    if payload.len() > 16_777_216 {
-        return Ok(OTHER);
-    }
-    match decode_script(alloc, payload) {
-        Ok((version, script, values)) => {
-            let mut again = BytesMut::new(alloc);
-            encode_script(version, &script, values.as_slice(), &mut again)?;
-            Ok(if again.as_slice() == payload {
-                TAKEN
-            } else {
-                OTHER
-            })
-        }
-        Err(
-            ScriptStop::Refused {
-                version,
-                number,
-                at,
-            },
-        ) => Ok(if version == version_of(payload) {
-            (number, at)
-        } else {
-            DISPUTED
-        }),
-        Err(stop) => Err(Fail::from(stop)),
-    }
-}
-
-/// Whether this is told of the payload of these digits.
-pub fn tells(alloc: Global, digits: &str, wanted: (u8, u32)) -> Result<bool, Fail> {
-    let payload = bytes_of(alloc, digits)?;
-    Ok(told(alloc, payload.as_slice())? == wanted)
-}
-
 #[test]
 fn the_first_refusal_is_answered(rt: HostRuntime) -> Result<(), Fail> {
-    for (digits, number, at) in ROWS {
-        let payload = bytes_of(rt.alloc(), digits)?;
-        assert_eq!(rt; refused(rt.alloc(), payload.as_slice()), Some((number, at)));
-    }
-    Ok(())
-}
-
-#[test]
-fn a_payload_that_is_cut_short_is_truncated_there(rt: HostRuntime) -> Result<(), Fail> {
-    let payload = bytes_of(rt.alloc(), ALL_FORMS)?;
-    for n in 0..payload.len() {
-        assert_eq!(rt;
-            refused(rt.alloc(), &payload[..n]),
-            Some((1, (n % 65_536) as u32))
-        );
-    }
-    Ok(())
+    rows_are_told(rt.alloc(), Reader::Script, &ROWS)
 }

@@ -1,83 +1,118 @@
 // Values as literals, each form once.
 
+use crate::parts::{last, push, word};
+use crate::shown::expected::expect;
 use rb_shown::add_literal;
-use rb_trees::{Memory, Seq, Shared, Value};
+use rb_trees::{Memory, Seq, Shared, Value, Word};
 use std::alloc::Global;
 use std::test::Fail;
 
-/// Whether a value is shown so.
-fn shows(alloc: Global, value: &Value, literal: &str) -> Result<bool, Memory> {
-    let mut text = Seq::new(alloc);
-    add_literal(alloc, value, &mut text)?;
-    Ok(text.as_slice() == literal.as_bytes())
+/// What is done to make values. A value is added to the list that began last.
+#[derive(Clone, Copy)]
+enum Make {
+    /// Begins a list.
+    Items,
+    Unit,
+    Int(i64),
+    Bool(bool),
+    Text(&'static str),
+    Ref(u32),
+    Remote(u32),
+    /// Adds the list that began last, which is taken.
+    List,
+    /// The same, as a list of the service.
+    Rows,
 }
 
-/// A text as a value.
-fn text(alloc: Global, bytes: &[u8]) -> Result<Value, Memory> {
-    let word = Seq::from_slice(alloc, bytes)?;
-    Ok(Value::Text(Shared::new(alloc, word)?))
-}
+static MAKES: [Make; 32] = [
+    Make::Items,
+    // Plain values have literals.
+    Make::Int(0),
+    Make::Int(-12),
+    Make::Int(-9_223_372_036_854_775_808),
+    Make::Bool(true),
+    Make::Bool(false),
+    Make::Ref(17),
+    // Texts are quoted and escaped.
+    Make::Text(""),
+    Make::Text("a\nb\"c\\d\te"),
+    // Lists have commas between their items, and stand in lists.
+    Make::Items,
+    Make::List,
+    Make::Items,
+    Make::Int(1),
+    Make::List,
+    Make::Items,
+    Make::Int(1),
+    Make::Int(2),
+    Make::Int(3),
+    Make::List,
+    Make::Items,
+    Make::Items,
+    Make::Int(1),
+    Make::Int(2),
+    Make::List,
+    Make::Text("a"),
+    Make::List,
+    // Other values have none.
+    Make::Unit,
+    Make::Remote(3),
+    Make::Items,
+    Make::Int(1),
+    Make::Int(2),
+    Make::Rows,
+];
 
-/// The list of the numbers from 1 to `count`.
-fn numbers(alloc: Global, count: u8) -> Result<Shared<Seq<Value>>, Memory> {
-    let mut items = Seq::new(alloc);
-    for number in 0..count {
-        items.push(Value::Int(i64::from(number) + 1))?;
+/// The literals of these values, each with a semicolon behind it.
+static LITERALS: &str =
+    "0;-12;-9223372036854775808;true;false;#17;\"\";\"a\\nb\\\"c\\\\d\te\";[];[1];[1, 2, 3];[[1, 2], \"a\"];;;;";
+
+/// Does what is told, on the lists that are being made.
+fn add(alloc: Global, make: Make, lists: &mut Vec<Seq<Value>>) -> Result<(), Memory> {
+    match make {
+        Make::Items => Ok(lists.push(Seq::new(alloc))?),
+        Make::Unit => push(lists, Value::Unit),
+        Make::Int(number) => push(lists, Value::Int(number)),
+        Make::Bool(truth) => push(lists, Value::Bool(truth)),
+        Make::Text(text) => {
+            let text = Shared::new(alloc, word(alloc, text)?)?;
+            push(lists, Value::Text(text))
+        }
+        Make::Ref(object) => push(lists, Value::Ref(object)),
+        Make::Remote(object) => push(lists, Value::Remote(object)),
+        Make::List => {
+            let items = Shared::new(alloc, last(alloc, lists))?;
+            push(lists, Value::List(items))
+        }
+        Make::Rows => {
+            let items = Shared::new(alloc, last(alloc, lists))?;
+            push(lists, Value::Rows(items))
+        }
     }
-    Shared::new(alloc, items)
 }
 
-#[test]
-fn plain_values_have_literals(rt: HostRuntime) -> Result<(), Fail> {
-    let alloc = rt.alloc();
-    assert!(rt; shows(alloc, &Value::Int(0), "0")?);
-    assert!(rt; shows(alloc, &Value::Int(-12), "-12")?);
-    assert!(rt; shows(alloc, &Value::Int(i64::MIN), "-9223372036854775808")?);
-    assert!(rt; shows(alloc, &Value::Bool(true), "true")?);
-    assert!(rt; shows(alloc, &Value::Bool(false), "false")?);
-    assert!(rt; shows(alloc, &Value::Ref(17), "#17")?);
+/// The values that are made so.
+fn values(alloc: Global, makes: &[Make]) -> Result<Seq<Value>, Memory> {
+    let mut lists = Vec::new(alloc);
+    for make in makes {
+        add(alloc, *make, &mut lists)?;
+    }
+    Ok(last(alloc, &mut lists))
+}
+
+/// Adds the literal of each value, and a semicolon.
+fn add_literals(alloc: Global, values: &[Value], text: &mut Word) -> Result<(), Memory> {
+    for value in values {
+        add_literal(alloc, value, text)?;
+        text.push(b';')?;
+    }
     Ok(())
 }
 
 #[test]
-fn texts_are_quoted_and_escaped(rt: HostRuntime) -> Result<(), Fail> {
-    let alloc = rt.alloc();
-    assert!(rt; shows(alloc, &text(alloc, b"")?, "\"\"")?);
-    assert!(rt;
-        shows(
-            alloc,
-            &text(alloc, b"a\nb\"c\\d\te")?,
-            "\"a\\nb\\\"c\\\\d\te\""
-        )?
-    );
-    Ok(())
-}
-
-#[test]
-fn lists_have_commas_between_items(rt: HostRuntime) -> Result<(), Fail> {
-    let alloc = rt.alloc();
-    assert!(rt; shows(alloc, &Value::List(numbers(alloc, 0)?), "[]")?);
-    assert!(rt; shows(alloc, &Value::List(numbers(alloc, 1)?), "[1]")?);
-    assert!(rt; shows(alloc, &Value::List(numbers(alloc, 3)?), "[1, 2, 3]")?);
-    Ok(())
-}
-
-#[test]
-fn lists_stand_in_lists(rt: HostRuntime) -> Result<(), Fail> {
-    let alloc = rt.alloc();
-    let mut items = Seq::new(alloc);
-    items.push(Value::List(numbers(alloc, 2)?))?;
-    items.push(text(alloc, b"a")?)?;
-    let list = Value::List(Shared::new(alloc, items)?);
-    assert!(rt; shows(alloc, &list, "[[1, 2], \"a\"]")?);
-    Ok(())
-}
-
-#[test]
-fn other_values_have_none(rt: HostRuntime) -> Result<(), Fail> {
-    let alloc = rt.alloc();
-    assert!(rt; shows(alloc, &Value::Unit, "")?);
-    assert!(rt; shows(alloc, &Value::Remote(3), "")?);
-    assert!(rt; shows(alloc, &Value::Rows(numbers(alloc, 2)?), "")?);
-    Ok(())
+fn each_form_of_a_value_has_its_literal(rt: HostRuntime) -> Result<(), Fail> {
+    let values = values(rt.alloc(), &MAKES)?;
+    let mut text = Seq::new(rt.alloc());
+    add_literals(rt.alloc(), values.as_slice(), &mut text)?;
+    expect(&text, LITERALS)
 }

@@ -1,10 +1,10 @@
 // Refusals of version 2 as bytes, both ways.
 
-use crate::forest::refusals::tells;
+use crate::payloads::{Reader, Row, rows_are_told};
 use std::test::Fail;
 
 /// Payloads with the number and the place of the refusal that they spell, 0 where they spell none.
-static ROWS: [(&str, u8, u32); 32] = [
+static ROWS: [Row; 32] = [
     ("02 01 05", 1, 5),
     ("02 02 00", 2, 0),
     ("02 03 ac 02", 3, 300),
@@ -44,8 +44,5 @@ static ROWS: [(&str, u8, u32); 32] = [
 
 #[test]
 fn refusals_are_read_and_spelled(rt: HostRuntime) -> Result<(), Fail> {
-    for (digits, number, at) in &ROWS {
-        assert!(rt; tells(rt.alloc(), digits, (*number, *at))?, "{digits}");
-    }
-    Ok(())
+    rows_are_told(rt.alloc(), Reader::Refusal, &ROWS)
 }

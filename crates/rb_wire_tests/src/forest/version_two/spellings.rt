@@ -1,7 +1,6 @@
 // Payloads of version 2 that spell forests.
 
-use crate::forest::digits::bytes_of;
-use crate::forest::forests::{FOREST, tells, tells_cuts};
+use crate::payloads::{Reader, are_spellings};
 use std::test::Fail;
 
 /// A node within each form of entry, a value of each form, and both ends of a node.
@@ -29,18 +28,6 @@ static FORESTS: [&str; 14] = [
 ];
 
 #[test]
-fn forests_are_spelled_as_they_were_read(rt: HostRuntime) -> Result<(), Fail> {
-    for digits in &FORESTS {
-        assert!(rt; tells(rt.alloc(), digits, FOREST)?, "{digits}");
-    }
-    Ok(())
-}
-
-#[test]
-fn a_forest_that_is_cut_short_is_truncated_there(rt: HostRuntime) -> Result<(), Fail> {
-    for digits in &FORESTS {
-        let payload = bytes_of(rt.alloc(), digits)?;
-        assert!(rt; tells_cuts(rt.alloc(), payload.as_slice())?, "{digits}");
-    }
-    Ok(())
+fn a_forest_is_its_spelling_and_is_truncated_where_it_is_cut(rt: HostRuntime) -> Result<(), Fail> {
+    are_spellings(rt.alloc(), Reader::Forest, &FORESTS)
 }

@@ -1,9 +1,9 @@
 // Payloads of version 2 that spell no forest, each with the number and the place of its first violation.
 
-use crate::forest::forests::tells;
+use crate::payloads::{Reader, Row, rows_are_told};
 use std::test::Fail;
 
-static ROWS: [(&str, u8, u64); 57] = [
+static ROWS: [Row; 57] = [
     // A root that isn't there, and counts of what isn't there.
     ("02", 1, 1),
     ("02 ffffffff", 1, 5),
@@ -84,8 +84,5 @@ static ROWS: [(&str, u8, u64); 57] = [
 
 #[test]
 fn the_first_violation_is_answered(rt: HostRuntime) -> Result<(), Fail> {
-    for (digits, number, at) in &ROWS {
-        assert!(rt; tells(rt.alloc(), digits, (*number, *at))?, "{digits}");
-    }
-    Ok(())
+    rows_are_told(rt.alloc(), Reader::Forest, &ROWS)
 }

@@ -1,10 +1,10 @@
 // Numbers in groups of seven bits, in payloads of version 2.
 
-use crate::script::refusals::tells;
+use crate::payloads::{Reader, Row, rows_are_told};
 use std::test::Fail;
 
 /// Payloads, each with the number and the place of its refusal, 0 where it is taken.
-static ROWS: [(&str, u8, u32); 51] = [
+static ROWS: [Row; 51] = [
     // The count of a block: 0 and its needless groups.
     ("02 00 00 00", 0, 0),
     ("02 00 00 80 00", 4, 3),
@@ -73,8 +73,5 @@ static ROWS: [(&str, u8, u32); 51] = [
 
 #[test]
 fn numbers_have_as_many_groups_as_they_need(rt: HostRuntime) -> Result<(), Fail> {
-    for (digits, number, at) in ROWS {
-        assert!(rt; tells(rt.alloc(), digits, (number, at))?, "{digits}");
-    }
-    Ok(())
+    rows_are_told(rt.alloc(), Reader::Script, &ROWS)
 }

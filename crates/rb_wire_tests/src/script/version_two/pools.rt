@@ -1,10 +1,10 @@
 // Pools of texts, in payloads of version 2.
 
-use crate::script::refusals::tells;
+use crate::payloads::{Reader, Row, rows_are_told};
 use std::test::Fail;
 
 /// Payloads, each with the number and the place of its refusal, 0 where it is taken.
-static ROWS: [(&str, u8, u32); 43] = [
+static ROWS: [Row; 43] = [
     // A text, twice used; two, in the order of their use; and a name and a value at one place.
     ("02 01 01 61 02 03 00 03 00 00", 0, 0),
     ("02 02 01 61 01 62 03 03 00 03 01 03 00 00", 0, 0),
@@ -82,8 +82,5 @@ static ROWS: [(&str, u8, u32); 43] = [
 
 #[test]
 fn texts_stand_once_and_in_the_order_of_their_use(rt: HostRuntime) -> Result<(), Fail> {
-    for (digits, number, at) in ROWS {
-        assert!(rt; tells(rt.alloc(), digits, (number, at))?, "{digits}");
-    }
-    Ok(())
+    rows_are_told(rt.alloc(), Reader::Script, &ROWS)
 }

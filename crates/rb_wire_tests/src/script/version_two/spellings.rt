@@ -1,8 +1,7 @@
 // Payloads of valid scripts in version 2.
 
-use crate::script::payloads::{bytes_of, told};
-use crate::script::refusals::refused;
-use std::alloc::Global;
+use crate::payloads::{Reader, are_spellings};
+use crate::script::scripts::scripts_are;
 use std::test::Fail;
 
 /// The empty script.
@@ -37,6 +36,11 @@ const GREAT: &str =
 pub const ALL_FORMS: &str =
     "02 04 02 c3 a9 04 66 69 6c 65 01 61 02 5f 31 04 01 0a 02 01 03 00 04 04 01 02 02 01 03 00 01 d7 04 06 12 01 0a 00 00 26 0b 04 01 23 01 21 00 11 02 0c 24 01 0d 21 01 10 03 0e 25 01 0f 20 01 01 20 03 02 13 04 10 20 02 00 01 11 05 11 22 00 00 14 06 12 01 01 26 13 08 03 23 00 01 10 07 14 22 01 15 08 ac 02 02 03 01 11 09 15 22 02";
 
+/// Payloads that are the spellings of their scripts.
+static SPELLINGS: [&str; 9] = [
+    EMPTY, FIRST, FAULTY, UNUSED, OVER, WITHIN, SHARED, GREAT, ALL_FORMS,
+];
+
 /// Each with the number of inputs, the number of steps, and the size of the code.
 static VALID: [(&str, u8, usize, u64); 9] = [
     (EMPTY, 0, 0, 4),
@@ -52,31 +56,10 @@ static VALID: [(&str, u8, usize, u64); 9] = [
 
 #[test]
 fn valid_scripts_are_read_and_written(rt: HostRuntime) -> Result<(), Fail> {
-    for (digits, inputs, steps, code) in VALID {
-        let payload = bytes_of(rt.alloc(), digits)?;
-        assert_eq!(rt;
-            told(rt.alloc(), payload.as_slice())?,
-            Some((inputs, steps, code, true))
-        );
-    }
-    Ok(())
-}
-
-/// Whether each payload that lacks bytes at the end of this one is truncated at its own end.
-fn tells_cuts(alloc: Global, digits: &str) -> Result<bool, Fail> {
-    let payload = bytes_of(alloc, digits)?;
-    for n in 0..payload.len() {
-        if refused(alloc, &payload[..n]) != Some((1, (n % 65_536) as u32)) {
-            return Ok(false);
-        }
-    }
-    Ok(true)
+    scripts_are(rt.alloc(), &VALID)
 }
 
 #[test]
-fn a_payload_that_is_cut_short_is_truncated_there(rt: HostRuntime) -> Result<(), Fail> {
-    for (digits, _inputs, _steps, _code) in VALID {
-        assert!(rt; tells_cuts(rt.alloc(), digits)?, "{digits}");
-    }
-    Ok(())
+fn a_payload_is_its_spelling_and_is_truncated_where_it_is_cut(rt: HostRuntime) -> Result<(), Fail> {
+    are_spellings(rt.alloc(), Reader::Script, &SPELLINGS)
 }

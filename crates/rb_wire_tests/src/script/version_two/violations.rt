@@ -1,9 +1,9 @@
 // Payloads of version 2 that are refused, each with the number and the place of its refusal.
 
-use crate::script::refusals::tells;
+use crate::payloads::{Reader, Row, rows_are_told};
 use std::test::Fail;
 
-static ROWS: [(&str, u8, u32); 58] = [
+static ROWS: [Row; 58] = [
     // What ends too early: behind the version, the pool, the inputs, and a count of what isn't there.
     ("02", 1, 1),
     ("02 00", 1, 2),
@@ -96,8 +96,5 @@ static ROWS: [(&str, u8, u32); 58] = [
 
 #[test]
 fn the_first_refusal_is_answered(rt: HostRuntime) -> Result<(), Fail> {
-    for (digits, number, at) in ROWS {
-        assert!(rt; tells(rt.alloc(), digits, (number, at))?, "{digits}");
-    }
-    Ok(())
+    rows_are_told(rt.alloc(), Reader::Script, &ROWS)
 }
