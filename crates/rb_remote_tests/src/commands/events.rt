@@ -153,7 +153,7 @@ const TRIAL_TABLES: &[&str] = &[
 ];
 
 /// The frame of a request that has the first file grow by one, and asks for its size then.
-pub const GROW: &[u8] =
+const GROW: &[u8] =
     b"RB\x01\x00\x00\x00\x00\x00\x00\x00\x80\x01\x00\x00\x00\x00\x02\x10\x00\x00\x00\x00\x00\x00\x00\x01\x26\x00\x00\x00\x01\x00\x00\x00\x00\x04grow\x26\x00\x00\x00\x01\x04\x00\x00\x00\x04file\x23\x00\x00\x00\x01\x20\x01\x00\x00\x00\x00\x00\x00\x00\x00\x00\x00\x00\x01\x20\x01\x00\x00\x00\x00\x00\x00\x00\x01\x11\x00\x00\x00\x01\x00\x00\x00\x01\x26\x00\x00\x00\x01\x01\x00\x00\x00\x04size\x26\x00\x00\x00\x01\x04\x00\x00\x00\x04file\x23\x00\x00\x00\x01\x20\x01\x00\x00\x00\x00\x00\x00\x00\x00\x00\x00\x00\x00";
 
 /// The frames of the replies to the first such request, to the second, and so on.
@@ -188,13 +188,18 @@ pub const WHOLE: &[Event<'static>] = &[
 ];
 
 /// A session of one such request and five bytes of another.
-pub const CUT: &[Event<'static>] = &[
+const CUT: &[Event<'static>] = &[
     Event::Take,
     Event::Take,
     Event::Reply,
     Event::Take,
     Event::Take,
 ];
+
+/// The bytes of those two sessions, in parts.
+pub const WHOLE_PARTS: &[&[u8]] = &[GROW, GROW, GROW];
+
+pub const CUT_PARTS: &[&[u8]] = &[GROW, b"RB\x01\x00\x00"];
 
 const READS: &[Event<'static>] = &[Event::Read("p"), Event::Read("s")];
 
