@@ -92,3 +92,8 @@ pub fn same_answer<D: Debug>(row: &D, answer: &str, want: &str) -> Result<(), Fa
     }
     Err(Fail::new(format_args!("{answer:?} in place of {want:?}, to {row:?}")))
 }
+
+/// What a test says that finds another thing than is wanted, by these words.
+pub fn other(thing: &str, words: &str) -> Fail {
+    Fail::new(format_args!("another {thing}, by {words}"))
+}

@@ -2,14 +2,11 @@
 
 ghost use Rattle.std.specs.Prelude.{◌≡◌, IfOk, OnOk, map};
 ghost use Rattle.rb_trees.specs.mirror.Declarations.{mirror_class};
-ghost use Rattle.rb_trees.specs.mirror.Services.{mirror_service};
 ghost use Rattle.rb_code.specs.Differ.{ClassesDiffer};
-ghost use Rattle.rb_meaning.specs.Links.{IsTyped};
 ghost use Rattle.rb_session.specs.Answering.{IsTypedHost};
 
 use rb_code::{Code, classes_differ};
 use rb_exec::Host;
-use rb_heap::Heap;
 use rb_session::FailingLink;
 use rb_store::read_service;
 use rb_trees::{Seq, Service};
@@ -24,13 +21,6 @@ object 0: Dir { list = [#1, #2]; }
 object 1: File { name = \"a\"; size = 10; }
 object 2: File { name = \"bb\"; size = 200; }
 root 0;";
-
-/// The service of that directory, and its table.
-pub fn files(alloc: Global) -> Result<(Service, Heap), Fail>
-    ensures { IfOk result (λ s. IsTyped (mirror_service s.0) s.1) }
-{
-    Ok(read_service(alloc, FILES.as_bytes())?)
-}
 
 /// Fails where two classes of a service, or two methods of one class, have one name.
 fn names_differ(alloc: Global, service: &Service) -> Result<(), Fail>

@@ -2,12 +2,11 @@
 
 use crate::client::answers::same_answer;
 use crate::client::changes::{Given, Row, lists_by_chance, lists_of, meddled_link};
-use crate::client::hosts::{FILES, files};
+use crate::client::hosts::FILES;
 use crate::client::runs::{Unsplit, ran, ran_over};
 use rb_heap::Heap;
-use rb_session::MeddledLink;
-use rb_store::print_table;
-use rb_trees::{Change, Seq, Service};
+use rb_store::{print_table, read_service};
+use rb_trees::{Change, Seq};
 use std::alloc::Global;
 use std::test::Fail;
 
@@ -18,39 +17,23 @@ fn with_table(alloc: Global, answer: &str, table: &Heap) -> Result<String, Fail>
     Ok(format!(in alloc; "{answer}{lines}")?)
 }
 
-/// What `main` answers over a link at whose server others change the table, and the table then.
-fn over_link(alloc: Global, main: &str, link: &mut MeddledLink) -> Result<String, Fail> {
-    let answer = ran_over(alloc, main, link)?;
-    with_table(alloc, answer.as_str(), link.host().table())
-}
-
 /// What `main` answers over a link at whose server others make these changes, and the table then.
 fn meddled(alloc: Global, main: &str, others: Seq<Seq<Change>>) -> Result<String, Fail> {
     let mut link = meddled_link(alloc, FILES, others)?;
-    over_link(alloc, main, &mut link)
+    let answer = ran_over(alloc, main, &mut link)?;
+    with_table(alloc, answer.as_str(), link.host().table())
 }
 
-/// What the unsplit run of `main` answers on a service where others make these changes, and the table then.
-fn on_service(
-    alloc: Global,
-    main: &str,
-    service: &Service,
-    table: &mut Heap,
-    others: &Seq<Seq<Change>>,
-) -> Result<String, Fail> {
+/// What the unsplit run of `main` answers on the service where others make these changes, and the table then.
+fn unsplit(alloc: Global, main: &str, others: &Seq<Seq<Change>>) -> Result<String, Fail> {
+    let (service, mut table) = read_service(alloc, FILES.as_bytes())?;
     let mut way = Unsplit {
-        service,
-        table: &mut *table,
+        service: &service,
+        table: &mut table,
         others,
     };
     let answer = ran(alloc, main, &mut way)?;
-    with_table(alloc, answer.as_str(), table)
-}
-
-/// The same on the service of two files.
-fn unsplit(alloc: Global, main: &str, others: &Seq<Seq<Change>>) -> Result<String, Fail> {
-    let (service, mut table) = files(alloc)?;
-    on_service(alloc, main, &service, &mut table, others)
+    with_table(alloc, answer.as_str(), &table)
 }
 
 /// What the two answer where others make these changes. Fails where one answers otherwise than the other.

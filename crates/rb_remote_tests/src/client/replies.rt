@@ -1,7 +1,6 @@
 // What a run of two texts answers to each reply.
 
-use crate::client::answers::same_answer;
-use crate::client::runs::{Row, expect_forests, expect_replies, nested, replied_forest};
+use crate::client::runs::{Row, expect_forests, expect_replies, nested};
 use std::alloc::Global;
 use std::test::Fail;
 
@@ -93,8 +92,7 @@ fn forests_are_replayed_or_told_with_what_is_wrong(rt: HostRuntime) -> Result<()
 fn expect_nested(alloc: Global, rows: &[(usize, &[u8], &str)]) -> Result<(), Fail> {
     for (count, zeros, want) in rows {
         let payload = nested(alloc, b"\x01", b"\x00\x00\x00\x01\x32\x01", *count, zeros)?;
-        let answer = replied_forest(alloc, TWO, payload.as_slice())?;
-        same_answer(count, answer.as_str(), want)?;
+        expect_forests(alloc, TWO, &[(payload.as_slice(), want)])?;
     }
     Ok(())
 }

@@ -163,12 +163,6 @@ pub fn frame_link(alloc: Global, bytes: &[u8]) -> Result<FrameLink<MemorySource,
     Ok(FrameLink::make(alloc, source, sink))
 }
 
-/// What `main` answers over a link that replies these bytes.
-fn replied(alloc: Global, main: &str, bytes: &[u8]) -> Result<String, Fail> {
-    let mut link = frame_link(alloc, bytes)?;
-    ran_over(alloc, main, &mut link)
-}
-
 /// The frame of a kind and a payload.
 pub fn framed(alloc: Global, kind: u8, payload: &[u8]) -> Result<Seq<u8>, Fail> {
     let mut frame = Seq::from_slice(alloc, b"RB")?;
@@ -194,10 +188,11 @@ pub fn nested(
     Ok(bytes)
 }
 
-/// What `main` answers over a link that replies a forest, or what else has these bytes.
-pub fn replied_forest(alloc: Global, main: &str, payload: &[u8]) -> Result<String, Fail> {
-    let frame = framed(alloc, 2, payload)?;
-    replied(alloc, main, frame.as_slice())
+/// Fails where `main` answers otherwise over a link that replies these bytes.
+fn expect_reply(alloc: Global, main: &str, bytes: &[u8], want: &str) -> Result<(), Fail> {
+    let mut link = frame_link(alloc, bytes)?;
+    let answer = ran_over(alloc, main, &mut link)?;
+    same_answer(&bytes, answer.as_str(), want)
 }
 
 /// What a link replies, and what is answered to it.
@@ -206,15 +201,16 @@ pub type Row<'a> = (&'a [u8], &'a str);
 /// Fails at the first reply to which `main` answers otherwise.
 pub fn expect_replies(alloc: Global, main: &str, rows: &[Row<'_>]) -> Result<(), Fail> {
     for (bytes, want) in rows {
-        same_answer(bytes, replied(alloc, main, bytes)?.as_str(), want)?;
+        expect_reply(alloc, main, bytes, want)?;
     }
     Ok(())
 }
 
 /// Fails at the first forest, or what else has these bytes, to which `main` answers otherwise.
 pub fn expect_forests(alloc: Global, main: &str, rows: &[Row<'_>]) -> Result<(), Fail> {
-    for (bytes, want) in rows {
-        same_answer(bytes, replied_forest(alloc, main, bytes)?.as_str(), want)?;
+    for (payload, want) in rows {
+        let frame = framed(alloc, 2, payload)?;
+        expect_reply(alloc, main, frame.as_slice(), want)?;
     }
     Ok(())
 }

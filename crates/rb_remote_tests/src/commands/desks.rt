@@ -8,13 +8,16 @@ use std::test::Fail;
 /// The name of a file, and the two parts of its text.
 pub type Text<'a> = (&'a str, &'a str, &'a str);
 
-/// What a command is asked: its words, the files that it may read, and the numbers of the reads and of the writes that fail.
+/// What a command is asked: its words, the files that it may read, and the numbers of the reads and of the writes that fail; and
+/// what it is to show: its exit status before what it prints, in two parts.
 #[derive(Clone, Copy)]
 pub struct Asked<'a> {
     pub words: &'a str,
     pub texts: &'a [Text<'a>],
     pub reads: &'a [u64],
     pub writes: &'a [u64],
+    pub said: &'a str,
+    pub rest: &'a str,
 }
 
 /// The words of a command, the files that it may read, and its output.
@@ -25,31 +28,20 @@ pub struct Desk {
     pub out: MemorySink,
 }
 
-/// The words of a text, which single spaces part.
-fn words_of(alloc: Global, text: &str) -> Result<Vec<String>, Fail> {
+/// A desk for what is asked. Single spaces part its words.
+pub fn desk_of(alloc: Global, asked: &Asked<'_>) -> Result<Desk, Fail> {
     let mut words = Vec::new(alloc);
-    for word in text.split(' ') {
+    for word in asked.words.split(' ') {
         words.push(String::from_str(alloc, word)?)?;
     }
-    Ok(words)
-}
-
-/// Adds files of these texts.
-fn add_files(alloc: Global, files: &mut MemoryFiles, texts: &[Text<'_>]) -> Result<(), Fail> {
-    for (name, front, rest) in texts {
+    let mut files = MemoryFiles::make(alloc, Seq::from_slice(alloc, asked.reads)?);
+    for (name, front, rest) in asked.texts {
         let text = format!(in alloc; "{front}{rest}")?;
         files.add(name, text.as_str().as_bytes())?;
     }
-    Ok(())
-}
-
-/// A desk for what is asked.
-pub fn desk_of(alloc: Global, asked: &Asked<'_>) -> Result<Desk, Fail> {
     let writes = Seq::from_slice(alloc, asked.writes)?;
-    let mut files = MemoryFiles::make(alloc, Seq::from_slice(alloc, asked.reads)?);
-    add_files(alloc, &mut files, asked.texts)?;
     Ok(Desk {
-        words: words_of(alloc, asked.words)?,
+        words,
         files,
         out: MemorySink::make(alloc, writes, usize::MAX),
     })

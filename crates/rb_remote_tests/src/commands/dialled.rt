@@ -1,8 +1,8 @@
 // Commands over a Dial in memory, whose links lead to servers in the same process.
 
-use crate::client::answers::same_answer;
+use crate::client::answers::other;
 use crate::client::hosts::failing_link;
-use crate::commands::commands::answer_over;
+use crate::commands::commands::expect_over;
 use crate::commands::desks::{Asked, Text};
 use rb_base::Link;
 use rb_heap::Heap;
@@ -44,37 +44,22 @@ pub struct Row<'a> {
     pub back: Back<'a>,
 }
 
-/// What a link waits under.
-fn target_of(alloc: Global, waiting: &Waiting<'_>) -> Result<Target, Fail> {
-    if waiting.is_child {
-        return Ok(Target::Child(Seq::from_slice(alloc, b"s")?));
-    }
-    Ok(Target::Address(Seq::from_slice(alloc, b"a")?))
-}
-
-/// Adds the links that wait.
-fn add_links(
+/// Adds links that wait to a Dial.
+pub fn add_links(
     alloc: Global,
     dial: &mut MemoryDial<FailingLink>,
     all: &[Waiting<'_>],
 ) -> Result<(), Fail> {
     for waiting in all {
-        let target = target_of(alloc, waiting)?;
         let link = failing_link(alloc, waiting.service, waiting.exchanges)?;
+        let target = if waiting.is_child {
+            Target::Child(Seq::from_slice(alloc, b"s")?)
+        } else {
+            Target::Address(Seq::from_slice(alloc, b"a")?)
+        };
         dial.add(target, link)?;
     }
     Ok(())
-}
-
-/// A Dial with these links, of which the dials of these numbers fail.
-pub fn dial_of(
-    alloc: Global,
-    failing: &[u64],
-    waiting: &[Waiting<'_>],
-) -> Result<MemoryDial<FailingLink>, Fail> {
-    let mut dial = MemoryDial::make(alloc, Seq::from_slice(alloc, failing)?);
-    add_links(alloc, &mut dial, waiting)?;
-    Ok(dial)
 }
 
 /// The exchanges of the one link that came back, and the table of its server; or None where none came back.
@@ -100,35 +85,35 @@ fn is_back(dial: &MemoryDial<FailingLink>, back: Back<'_>) -> bool {
     }
 }
 
-/// Fails at the first run of a row that shows something else, or where something else comes back.
-fn expect_runs(
+/// Fails where a row doesn't hold over a new Dial.
+fn expect_row(
     alloc: Global,
     row: &Row<'_>,
     dial: &mut MemoryDial<FailingLink>,
 ) -> Result<(), Fail> {
-    let asked = Asked {
-        words: row.words,
-        texts: row.texts,
-        reads: &[],
-        writes: row.writes,
-    };
+    add_links(alloc, dial, row.waiting)?;
     for want in row.wants {
-        same_answer(&row.words, answer_over(alloc, &asked, dial)?.as_str(), want)?;
+        let asked = Asked {
+            words: row.words,
+            texts: row.texts,
+            reads: &[],
+            writes: row.writes,
+            said: want,
+            rest: "",
+        };
+        expect_over(alloc, &asked, dial)?;
     }
     if is_back(dial, row.back) {
         return Ok(());
     }
-    Err(Fail::new(format_args!(
-        "something else came back, by {} with {:?}",
-        row.words, row.wants
-    )))
+    Err(other("link that came back", row.words))
 }
 
 /// Fails at the first row that doesn't hold.
 pub fn expect_rows(alloc: Global, rows: &[Row<'_>]) -> Result<(), Fail> {
     for row in rows {
-        let mut dial = dial_of(alloc, row.dials, row.waiting)?;
-        expect_runs(alloc, row, &mut dial)?;
+        let mut dial = MemoryDial::make(alloc, Seq::from_slice(alloc, row.dials)?);
+        expect_row(alloc, row, &mut dial)?;
     }
     Ok(())
 }

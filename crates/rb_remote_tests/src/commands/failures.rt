@@ -1,11 +1,11 @@
 // One failure at each place: each call that a command makes of its outside fails in turn.
 
-use crate::client::answers::same_answer;
-use crate::commands::commands::answer_on;
+use crate::client::answers::other;
+use crate::commands::commands::expect_on;
 use crate::commands::desks::{Asked, Text};
-use crate::commands::dialled::{Waiting, came_back, dial_of};
+use crate::commands::dialled::{Waiting, add_links, came_back};
 use crate::commands::events::{
-    CALLS, COMMANDS, CUT_PARTS, Call, Command, Event, MAIN, REPLIES, SIZES, WHOLE, WHOLE_PARTS,
+    CALLS, COMMANDS, Call, Command, Event, GROW, MAIN, REPLIES, SIZES, WHOLE,
 };
 use crate::commands::sessions::{Session, listen_of};
 use crate::commands::texts::{FILES, SERVICE};
@@ -25,7 +25,7 @@ fn call_of(event: &Event<'_>) -> Option<Call> {
         Event::Read(_) => Some(Call::Read),
         Event::Dial => Some(Call::Dial),
         Event::Around | Event::Within => None,
-        Event::Exchange => Some(Call::Exchange),
+        Event::Exchange(_) => Some(Call::Exchange),
         Event::Listen => Some(Call::Listen),
         Event::Take => Some(Call::Take),
         Event::Reply => Some(Call::Reply),
@@ -109,14 +109,16 @@ impl Front {
     /// An event happens.
     fn happens(&mut self, event: &Event<'_>) -> Result<(), Fail> {
         match event {
-            Event::Line(line) => self.prints(line)?,
-            Event::Grown => self.prints_size()?,
-            Event::Session(end) => self.ends_session(end)?,
+            Event::Line(line) => return self.prints(line),
+            Event::Grown => return self.prints_size(),
+            Event::Session(end) => return self.ends_session(end),
+            Event::Reply => return self.writes_reply(),
             Event::Dial | Event::Around => self.exchanges = Some(0),
-            Event::Exchange | Event::Within => {
-                self.exchanges = self.exchanges.map(|count| count.wrapping_add(1));
+            Event::Exchange(_) | Event::Within => {
+                if let Some(count) = self.exchanges {
+                    self.exchanges = Some(count.wrapping_add(1));
+                }
             }
-            Event::Reply => self.writes_reply()?,
             Event::Read(_) | Event::Listen | Event::Take => {}
         }
         Ok(())
@@ -165,27 +167,16 @@ impl Front {
     }
 
     /// Stops at a call that fails: says so behind the lines, and answers the status.
-    fn stops(&mut self, event: &Event<'_>) -> Result<u8, Fail> {
-        match event {
-            Event::Read(name) => {
-                writeln!(self.lines, "file fault {name}")?;
-                Ok(3)
-            }
-            Event::Dial => {
-                self.prints("dial fault")?;
-                Ok(11)
-            }
-            Event::Exchange => {
-                let done = self.exchanges.unwrap_or(0);
-                writeln!(self.lines, "link fault {done}")?;
-                Ok(7)
-            }
-            Event::Listen => {
-                self.prints("listen fault")?;
-                Ok(12)
-            }
-            _ => Ok(9),
-        }
+    fn stops(&mut self, event: &Event<'_>) -> Result<&'static str, Fail> {
+        let (status, cause, of) = match event {
+            Event::Read(name) => ("3 ", "file fault ", *name),
+            Event::Dial => ("11 ", "dial fault", ""),
+            Event::Exchange(done) => ("7 ", "link fault ", *done),
+            Event::Listen => ("12 ", "listen fault", ""),
+            _ => return Ok("9 "),
+        };
+        writeln!(self.lines, "{cause}{of}")?;
+        Ok(status)
     }
 
     /// The lines, or none where the command says nothing on its output.
@@ -194,7 +185,7 @@ impl Front {
     }
 
     /// Goes through the events of a command to its end, or to the call that fails and stops it, and answers the status.
-    fn goes_through(&mut self, command: &Command<'_>, call: Call) -> Result<u8, Fail> {
+    fn goes_through<'a>(&mut self, command: &Command<'a>, call: Call) -> Result<&'a str, Fail> {
         for events in command.events {
             for event in *events {
                 if !self.goes_on(call, event)? {
@@ -204,18 +195,6 @@ impl Front {
         }
         Ok(command.status)
     }
-}
-
-/// What a command shows where a call of it fails: a fold over its events.
-fn wanted(
-    alloc: Global,
-    command: &Command<'_>,
-    call: Call,
-    front: &mut Front,
-) -> Result<String, Fail> {
-    let status = front.goes_through(command, call)?;
-    let lines = front.said(command.is_silent);
-    Ok(format!(in alloc; "{status} {lines}")?)
 }
 
 /// The call of a run that fails: its kind and its number.
@@ -243,10 +222,12 @@ impl Failure {
         }
     }
 
-    /// A session of these parts, of which this call fails.
-    fn session<'a>(&'a self, parts: &'a [&'a [u8]]) -> Session<'a> {
+    /// A session of so many requests, and of this behind them, of which this call fails.
+    fn session<'a>(&'a self, times: usize, rest: &'a [u8]) -> Session<'a> {
         Session {
-            parts,
+            request: GROW,
+            times,
+            rest,
             reads: self.of(Call::Take),
             writes: self.of(Call::Reply),
         }
@@ -264,25 +245,6 @@ impl Failure {
 
 /// The files `p` and `s`.
 const TEXTS: &[Text<'static>] = &[("p", FILES, MAIN), ("s", "", SERVICE)];
-
-/// A Dial with a link under the address `a`, and one to the child of `s`.
-fn dial_for(alloc: Global, failure: &Failure) -> Result<MemoryDial<FailingLink>, Fail> {
-    let waiting = [failure.link(false), failure.link(true)];
-    dial_of(alloc, failure.of(Call::Dial), waiting.as_slice())
-}
-
-/// A listener at `a` and at `-`, with a session that is whole and one that is cut.
-fn listen_for(alloc: Global, failure: &Failure) -> Result<MemoryListen, Fail> {
-    let later = failure.behind(WHOLE);
-    let sessions = [failure.session(WHOLE_PARTS), later.session(CUT_PARTS)];
-    listen_of(
-        alloc,
-        &["a", "-"],
-        sessions.as_slice(),
-        failure.of(Call::Listen),
-        usize::MAX,
-    )
-}
 
 /// Whether these bytes were written in the sessions that came back, one after the other.
 fn are_written(listen: &MemoryListen, replies: &[u8]) -> bool {
@@ -304,13 +266,13 @@ fn same_table(
     table: Option<&Heap>,
 ) -> Result<(), Fail> {
     let (Some(table), Some(wanted)) = (table, command.tables.get(exchanges)) else {
-        return Err(Fail::new(format_args!("there is no table, by {}", command.words)));
+        return Err(other("link", command.words));
     };
     let shown = print_table(alloc, table)?;
     if shown.as_slice() == wanted.as_bytes() {
         return Ok(());
     }
-    Err(Fail::new(format_args!("{shown:?} in place of {wanted:?}, by {}", command.words)))
+    Err(other("table", command.words))
 }
 
 /// Fails where another link came back to a Dial than one that had so many exchanges of a command, or its table isn't as it is then.
@@ -325,10 +287,7 @@ fn same_link(
         (Some((pairs, table)), Some(exchanges)) if pairs.len() == exchanges => {
             same_table(alloc, command, exchanges, table)
         }
-        _ => Err(Fail::new(format_args!(
-            "there weren't {wanted:?} exchanges, by {}",
-            command.words
-        ))),
+        _ => Err(other("number of exchanges", command.words)),
     }
 }
 
@@ -352,37 +311,43 @@ fn calls_made(command: &Command<'_>, call: Call) -> u64 {
     count
 }
 
-/// Fails where a command shows something else over a Dial and a listener than is wanted where a call of it fails, or leaves
-/// something else there.
+/// Fails where a command comes to something else, over a Dial and a listener, than its events say up to the call of it that fails.
 fn expect_over(
     alloc: Global,
     command: &Command<'_>,
     failure: Failure,
+    front: &mut Front,
     dial: &mut MemoryDial<FailingLink>,
     listen: &mut MemoryListen,
 ) -> Result<(), Fail> {
+    let waiting = [failure.link(false), failure.link(true)];
+    add_links(alloc, dial, waiting.as_slice())?;
+    let said = front.goes_through(command, failure.call)?;
     let asked = Asked {
         words: command.words,
         texts: TEXTS,
         reads: failure.of(Call::Read),
         writes: failure.of(Call::Write),
+        said,
+        rest: front.said(command.is_silent),
     };
-    let shown = answer_on(alloc, &asked, dial, listen, &mut NullStores)?;
-    let mut front = Front::make(alloc, failure.number);
-    let wanted = wanted(alloc, command, failure.call, &mut front)?;
-    let row = (command.words, failure.call, failure.number);
-    same_answer(&row, shown.as_str(), wanted.as_str())?;
+    expect_on(alloc, &asked, dial, listen, &mut NullStores)?;
     if !are_written(listen, front.replies.as_slice()) {
-        return Err(Fail::new(format_args!("other replies came back, by {row:?}")));
+        return Err(other("reply", command.words));
     }
     same_link(alloc, command, front.exchanges, dial)
 }
 
-/// Fails where a command comes to something else than is wanted where a call of it fails.
+/// Fails where a command comes to something else than is wanted where a call of it fails: over a Dial, and over a listener at `a` and
+/// at `-` with a session that is whole and one that is cut.
 fn expect_failure(alloc: Global, command: &Command<'_>, failure: Failure) -> Result<(), Fail> {
-    let mut dial = dial_for(alloc, &failure)?;
-    let mut listen = listen_for(alloc, &failure)?;
-    expect_over(alloc, command, failure, &mut dial, &mut listen)
+    let later = failure.behind(WHOLE);
+    let sessions = [failure.session(3, b""), later.session(1, b"RB\x01\x00\x00")];
+    let calls = failure.of(Call::Listen);
+    let mut listen = listen_of(alloc, &["a", "-"], sessions.as_slice(), calls, usize::MAX)?;
+    let mut dial = MemoryDial::make(alloc, Seq::from_slice(alloc, failure.of(Call::Dial))?);
+    let mut front = Front::make(alloc, failure.number);
+    expect_over(alloc, command, failure, &mut front, &mut dial, &mut listen)
 }
 
 /// Fails at the first call of a kind that, where it fails, has a command come to something else than is wanted. One call more is

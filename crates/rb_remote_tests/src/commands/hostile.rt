@@ -2,8 +2,9 @@
 
 use crate::client::runs::{framed, nested};
 use crate::commands::replies::expect_reply;
-use crate::commands::servers::{Row, SERVE, expect_served};
-use crate::commands::sessions::{STEADY, Session};
+use crate::commands::servers::{Row, expect_served};
+use crate::commands::sessions::Session;
+use crate::commands::texts::NUMBER;
 use rb_disk::NullStores;
 use rb_trees::Seq;
 use std::alloc::Global;
@@ -138,18 +139,27 @@ fn bytes_of(alloc: Global, sent: Sent<'_>) -> Result<Seq<u8>, Fail> {
 }
 
 /// Fails where something else comes of bytes than is wanted.
-fn expect_bytes<'a>(alloc: Global, bytes: &'a [u8], case: &Case<'a>) -> Result<(), Fail> {
+fn expect_bytes(alloc: Global, bytes: &[u8], case: &Case<'_>) -> Result<(), Fail> {
     match case.to {
         Receiver::Client => expect_reply(alloc, bytes, case.shown),
         Receiver::Server(reply) => {
             let row = Row {
+                words: "serve a s 1",
+                service: NUMBER,
+                address: "a",
                 sessions: &[Session {
-                    parts: &[bytes],
-                    ..STEADY
+                    request: b"",
+                    times: 0,
+                    rest: bytes,
+                    reads: &[],
+                    writes: &[],
                 }],
+                most: usize::MAX,
+                calls: &[],
+                writes: &[],
                 said: case.shown,
+                rest: "",
                 replies: &[reply],
-                ..SERVE
             };
             expect_served(alloc, &row, &mut NullStores)
         }

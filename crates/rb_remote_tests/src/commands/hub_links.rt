@@ -3,7 +3,6 @@
 use crate::client::hosts::host_of;
 use crate::commands::commands::expect_run;
 use crate::commands::texts::{SERVICE, TWICE};
-use rb_exec::Host;
 use rb_hub::{Event, Hub, HubLink};
 use rb_trees::{Memory, Seq};
 use std::alloc::Global;
@@ -72,26 +71,20 @@ fn others_of(alloc: Global, tables: &[&[Come]]) -> Result<Seq<Seq<Event>>, Memor
     Ok(others)
 }
 
-/// A link through a hub, where others do this before each exchange.
-fn link_through(alloc: Global, hub: Hub<Host>, others: Seq<Seq<Event>>) -> Result<HubLink, Fail> {
-    match HubLink::make(alloc, hub, others) {
+/// A link to the service of files through a new hub, where others do this before each exchange.
+fn link_of(alloc: Global, tables: &[&[Come]]) -> Result<HubLink, Fail> {
+    let hub = Hub::make(alloc, host_of(alloc, SERVICE)?);
+    match HubLink::make(alloc, hub, others_of(alloc, tables)?) {
         Ok(link) => Ok(link),
         Err(_) => Err(Fail::new("no session is opened")),
     }
-}
-
-/// A link to the service of files through a new hub, where others do this before each exchange.
-fn link_of(alloc: Global, tables: &[&[Come]]) -> Result<HubLink, Fail> {
-    let others = others_of(alloc, tables)?;
-    let host = host_of(alloc, SERVICE)?;
-    link_through(alloc, Hub::make(alloc, host), others)
 }
 
 #[test]
 fn a_batch_finds_what_the_sessions_of_others_left(rt: HostRuntime) -> Result<(), Fail> {
     let alloc = rt.alloc();
     for (tables, want) in ROWS {
-        expect_run(alloc, TWICE, link_of(alloc, tables)?, want, want)?;
+        expect_run(alloc, TWICE, link_of(alloc, tables)?, want)?;
     }
     Ok(())
 }

@@ -1,5 +1,6 @@
 // `keep ADDRESS S COUNT J`: requests that are kept on disks in memory.
 
+use crate::client::answers::other;
 use crate::commands::servers::{Row, SERVE, expect_served};
 use crate::commands::sessions::{STEADY, Session};
 use crate::commands::texts::{NOTHING_REPLY, SERVICE, TABLE};
@@ -29,7 +30,8 @@ const GROWN: &str =
 
 /// A session of that request.
 const ONCE: Session<'static> = Session {
-    parts: &[GROW],
+    request: GROW,
+    times: 1,
     ..STEADY
 };
 
@@ -218,8 +220,7 @@ fn stores_of(alloc: Global, disk: &[u8], failing: &[u64]) -> Result<MemoryStores
 fn same_disk(words: &str, stores: &MemoryStores, left: &[u8]) -> Result<(), Fail> {
     match stores.disk("j") {
         Some(disk) if disk.bytes() == left => Ok(()),
-        Some(_) => Err(Fail::new(format_args!("other bytes are left on the disk, by {words}"))),
-        None => Err(Fail::new(format_args!("the disk didn't come back, by {words}"))),
+        _ => Err(other("disk that came back", words)),
     }
 }
 

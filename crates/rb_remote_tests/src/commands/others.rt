@@ -30,7 +30,7 @@ fn link_of(alloc: Global, lists: &[&[Row<'_>]]) -> Result<MeddledLink, Fail> {
 fn a_batch_prints_what_it_finds(rt: HostRuntime) -> Result<(), Fail> {
     let alloc = rt.alloc();
     for (lists, want) in ROWS {
-        expect_run(alloc, TWICE, link_of(alloc, lists)?, want, want)?;
+        expect_run(alloc, TWICE, link_of(alloc, lists)?, want)?;
     }
     Ok(())
 }

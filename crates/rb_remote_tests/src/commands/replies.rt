@@ -8,7 +8,7 @@ use std::test::Fail;
 
 /// Fails where `run a p` says something else of the program of two names over a link on which these bytes come.
 pub fn expect_reply(alloc: Global, bytes: &[u8], want: &str) -> Result<(), Fail> {
-    expect_run(alloc, NAMES, frame_link(alloc, bytes)?, &bytes, want)
+    expect_run(alloc, NAMES, frame_link(alloc, bytes)?, want)
 }
 
 /// Replies to the program of two names, with what is said of each.

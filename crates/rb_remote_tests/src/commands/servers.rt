@@ -1,6 +1,6 @@
 // `serve ADDRESS S COUNT` and `child S`, over sessions in memory.
 
-use crate::commands::commands::{answer_on, same_parts};
+use crate::commands::commands::expect_on;
 use crate::commands::desks::Asked;
 use crate::commands::sessions::{STEADY, Session, listen_of, same_replies};
 use crate::commands::texts::{NOTHING, NOTHING_REPLIES, NOTHING_REPLY, NUMBER, SERVICE, TABLE};
@@ -26,28 +26,28 @@ pub struct Row<'a> {
     pub replies: &'a [&'a [u8]],
 }
 
-/// What the command of a row shows over a listener and stores.
-fn shown<T: Stores>(
+/// Fails where a row shows something else than it is to, over a listener and stores.
+fn expect_shown<T: Stores>(
     alloc: Global,
     row: &Row<'_>,
     listen: &mut MemoryListen,
     stores: &mut T,
-) -> Result<String, Fail> {
+) -> Result<(), Fail> {
     let asked = Asked {
         words: row.words,
         texts: &[("s", "", row.service)],
         reads: &[],
         writes: row.writes,
+        said: row.said,
+        rest: row.rest,
     };
-    let mut dial = NullDial::make(alloc);
-    answer_on(alloc, &asked, &mut dial, listen, stores)
+    expect_on(alloc, &asked, &mut NullDial::make(alloc), listen, stores)
 }
 
 /// Fails where a row doesn't hold over stores.
 pub fn expect_served<T: Stores>(alloc: Global, row: &Row<'_>, stores: &mut T) -> Result<(), Fail> {
     let mut listen = listen_of(alloc, &[row.address], row.sessions, row.calls, row.most)?;
-    let shown = shown(alloc, row, &mut listen, stores)?;
-    same_parts(row.words, shown.as_str(), row.said, row.rest)?;
+    expect_shown(alloc, row, &mut listen, stores)?;
     same_replies(row.words, &listen, row.replies)
 }
 
@@ -61,7 +61,8 @@ fn expect_rows(alloc: Global, rows: &[Row<'_>]) -> Result<(), Fail> {
 
 /// A session of one request.
 const ONCE: Session<'static> = Session {
-    parts: &[NOTHING],
+    request: NOTHING,
+    times: 1,
     ..STEADY
 };
 
@@ -82,7 +83,8 @@ pub const SERVE: Row<'static> = Row {
 /// The same with a session of two requests.
 const DOUBLE: Row<'static> = Row {
     sessions: &[Session {
-        parts: &[NOTHING, NOTHING],
+        request: NOTHING,
+        times: 2,
         ..STEADY
     }],
     said: "0 session 1 requests 2 end\nobject 0: D { }\n",
@@ -113,7 +115,7 @@ const SERVERS: &[Row<'static>] = &[
         sessions: &[
             ONCE,
             Session {
-                parts: &[b"RB\x01\x00\x00"],
+                rest: b"RB\x01\x00\x00",
                 ..STEADY
             },
         ],
@@ -176,7 +178,7 @@ const SERVERS: &[Row<'static>] = &[
         words: "serve a s 9",
         sessions: &[
             Session {
-                parts: &[b"RB\x02"],
+                rest: b"RB\x02",
                 ..STEADY
             },
             Session {
@@ -260,7 +262,7 @@ const CHILDREN: &[Row<'static>] = &[
     },
     Row {
         sessions: &[Session {
-            parts: &[b"RB\x01\x00\x00"],
+            rest: b"RB\x01\x00\x00",
             ..STEADY
         }],
         said: "0 ",

@@ -1,48 +1,40 @@
 // Sessions that come to a listener in memory.
 
+use crate::client::answers::other;
+use crate::client::runs::nested;
 use rb_base::{Coming, MemoryListen};
 use rb_trees::Seq;
 use std::alloc::Global;
 use std::test::Fail;
 
-/// A session: the parts of its bytes, and the numbers of its reads and of its writes that fail.
+/// A session: its requests of these bytes, so many, and what follows them; and the numbers of its reads and of its writes that fail.
 #[derive(Clone, Copy)]
 pub struct Session<'a> {
-    pub parts: &'a [&'a [u8]],
+    pub request: &'a [u8],
+    pub times: usize,
+    pub rest: &'a [u8],
     pub reads: &'a [u64],
     pub writes: &'a [u64],
 }
 
 /// A session of no bytes, of which no call fails.
 pub const STEADY: Session<'static> = Session {
-    parts: &[],
+    request: b"",
+    times: 0,
+    rest: b"",
     reads: &[],
     writes: &[],
 };
 
-/// The bytes of these parts.
-fn joined(alloc: Global, parts: &[&[u8]]) -> Result<Seq<u8>, Fail> {
-    let mut bytes = Seq::new(alloc);
-    for part in parts {
-        bytes.extend_from_slice(part)?;
-    }
-    Ok(bytes)
-}
-
-/// A session that is to come.
-fn coming(alloc: Global, session: &Session<'_>) -> Result<Coming, Fail> {
-    Ok(Coming {
-        bytes: joined(alloc, session.parts)?,
-        reads: Seq::from_slice(alloc, session.reads)?,
-        writes: Seq::from_slice(alloc, session.writes)?,
-    })
-}
-
-/// These sessions.
+/// These sessions, which are to come.
 fn comings(alloc: Global, sessions: &[Session<'_>]) -> Result<Seq<Coming>, Fail> {
     let mut all = Seq::new(alloc);
     for session in sessions {
-        all.push(coming(alloc, session)?)?;
+        all.push(Coming {
+            bytes: nested(alloc, b"", session.request, session.times, session.rest)?,
+            reads: Seq::from_slice(alloc, session.reads)?,
+            writes: Seq::from_slice(alloc, session.writes)?,
+        })?;
     }
     Ok(all)
 }
@@ -77,5 +69,5 @@ pub fn same_replies(words: &str, listen: &MemoryListen, replies: &[&[u8]]) -> Re
     if is_same {
         return Ok(());
     }
-    Err(Fail::new(format_args!("other sessions came back, by {words}")))
+    Err(other("sessions that came back", words))
 }
