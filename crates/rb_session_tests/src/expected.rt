@@ -1,21 +1,12 @@
-// What is found, beside what is wanted.
+// What is said where something goes otherwise than is wanted.
 
-use std::test::Fail;
+/// Nothing where all goes as is wanted; or else what goes otherwise.
+pub type Told = Result<(), &'static str>;
 
-/// Fails where other bytes are found than are wanted.
-pub fn expect_bytes(found: &[u8], want: &[u8]) -> Result<(), Fail> {
-    if found == want {
-        Ok(())
-    } else {
-        Err(Fail::new(format_args!("{found:?} in place of {want:?}")))
-    }
-}
+/// What is said where memory is wanting.
+pub const NO_MEMORY: &str = "out of memory";
 
-/// Fails where something is found that isn't wanted, and says what was.
-pub fn expect(is_wanted: bool, found: &str) -> Result<(), Fail> {
-    if is_wanted {
-        Ok(())
-    } else {
-        Err(Fail::new(found))
-    }
+/// Says what goes otherwise, unless all goes as is wanted.
+pub fn told(is_wanted: bool, otherwise: &'static str) -> Told {
+    if is_wanted { Ok(()) } else { Err(otherwise) }
 }

@@ -4,6 +4,8 @@
 #[cfg(test)]
 mod base;
 #[cfg(test)]
+mod ends;
+#[cfg(test)]
 mod expected;
 #[cfg(test)]
 mod hosts;

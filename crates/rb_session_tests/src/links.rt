@@ -1,6 +1,6 @@
-// Tests of links over frames, of links of which exchanges fail or whose table others change, and of what is dialled.
+// Tests of links in memory and over frames, of those whose table others change, and of what is dialled.
 
 mod dials;
-mod failing_links;
+mod exchanges;
 mod frame_links;
 mod meddled_links;

@@ -1,7 +1,6 @@
-// Tests of answers, of the link in memory, and of sessions.
+// Tests of answers, and of sessions.
 
 mod answers;
-mod links;
 mod serving;
 mod sessions;
 mod streams;

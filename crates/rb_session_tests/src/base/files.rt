@@ -1,90 +1,74 @@
 // Files: what a read takes, and where it fails.
 
-use crate::expected::expect_bytes;
+use crate::expected::{NO_MEMORY, Told, told};
 use bytes::BytesMut;
 use rb_base::{Files, FilesStop, MemoryFiles, SameFiles};
 use rb_trees::{Memory, Seq};
 use std::alloc::Global;
-use std::test::Fail;
 
 /// The names of files, and what they hold.
 const FILES: &[(&str, &[u8])] = &[("p", b"first"), ("s", b"second"), ("p", b"third")];
 
-/// Adds all files.
-fn add_files(files: &mut MemoryFiles) -> Result<(), Memory> {
+/// A read of the file of a name, up to a limit, with what stands behind `> ` in the buffer then; or None where it fails.
+type Read<'a> = (&'a str, usize, Option<&'a [u8]>);
+
+/// Says what goes otherwise in a read behind `> `, which takes nothing where it fails.
+fn read_told<F: Files>(files: &mut F, (name, limit, want): &Read<'_>, into: &mut BytesMut) -> Told {
+    into.truncate(2);
+    let is_wanted = match (files.read(name, *limit, into), want) {
+        (Ok(()), Some(bytes)) => into.as_slice() == *bytes,
+        (Err(FilesStop::Failed), None) => into.as_slice() == b"> ".as_slice(),
+        (Err(FilesStop::Memory), _) => return Err(NO_MEMORY),
+        _ => false,
+    };
+    told(is_wanted, "other bytes are read")
+}
+
+/// Says what goes otherwise in reads.
+fn reads_told<F: Files>(alloc: Global, files: &mut F, reads: &[Read<'_>]) -> Told {
+    let mut into = BytesMut::new(alloc);
+    if into.extend_from_slice(b"> ").is_err() {
+        return Err(NO_MEMORY);
+    }
+    let mut told = Ok(());
+    for read in reads {
+        told = told.and(read_told(files, read, &mut into));
+    }
+    told
+}
+
+/// Those files. Their fifth read fails.
+fn memory_files(alloc: Global) -> Result<MemoryFiles, Memory> {
+    let mut files = MemoryFiles::make(alloc, Seq::from_slice(alloc, &[5])?);
     for (name, content) in FILES {
         files.add(name, content)?;
     }
-    Ok(())
+    Ok(files)
 }
 
-/// A read that failed, in a word.
-fn word_of(stop: &FilesStop) -> &'static [u8] {
-    match stop {
-        FilesStop::Failed => b"failed",
-        FilesStop::Memory => b"out of memory",
-    }
-}
-
-/// Fails where a read behind `> ` comes to something else: what stands in the buffer then, or a word where it fails.
-fn expect_read<F: Files>(
-    files: &mut F,
-    (name, limit, want): &(&str, usize, &[u8]),
-    into: &mut BytesMut,
-) -> Result<(), Fail> {
-    into.clear();
-    into.extend_from_slice(b"> ")?;
-    match files.read(name, *limit, into) {
-        Ok(()) => expect_bytes(into.as_slice(), want),
-        Err(stop) => expect_bytes(word_of(&stop), want),
-    }
-}
-
-/// Fails at the first such read: of the file of a name, up to a limit.
-fn expect_reads<F: Files>(
-    alloc: Global,
-    files: &mut F,
-    rows: &[(&str, usize, &[u8])],
-) -> Result<(), Fail> {
-    let mut into = BytesMut::new(alloc);
-    for row in rows {
-        expect_read(files, row, &mut into)?;
-    }
-    Ok(())
-}
-
-/// Reads of those files, with what they come to. The fifth is listed, and the sixth has no file.
-const READS: &[(&str, usize, &[u8])] = &[
-    ("p", 3, b"> firs"),
-    ("p", 4, b"> first"),
-    ("s", usize::MAX, b"> second"),
-    ("p", 9, b"> first"),
-    ("p", 9, b"failed"),
-    ("P", 9, b"failed"),
-    ("p", 9, b"> first"),
+/// Reads of those files. The fifth is listed, and the sixth has no file.
+const READS: &[Read<'_>] = &[
+    ("p", 3, Some(b"> firs")),
+    ("p", 4, Some(b"> first")),
+    ("s", usize::MAX, Some(b"> second")),
+    ("p", 9, Some(b"> first")),
+    ("p", 9, None),
+    ("P", 9, None),
+    ("p", 9, Some(b"> first")),
 ];
 
-/// Adds the files, and reads them.
-fn read_all(alloc: Global, files: &mut MemoryFiles) -> Result<(), Fail> {
-    add_files(files)?;
-    expect_reads(alloc, files, READS)
-}
-
 #[test]
-fn a_read_takes_one_byte_more_than_its_limit_unless_it_fails(rt: HostRuntime) -> Result<(), Fail> {
-    let alloc = rt.alloc();
-    read_all(
-        alloc,
-        &mut MemoryFiles::make(alloc, Seq::from_slice(alloc, &[5])?),
-    )
+fn a_read_takes_one_byte_more_than_its_limit_unless_it_fails(rt: HostRuntime) {
+    let mut files = memory_files(rt.alloc()).expect(&rt, "files");
+    reads_told(rt.alloc(), &mut files, READS).expect(&rt, "a read");
 }
 
 /// Reads of files that are all alike.
-const SAME_READS: &[(&str, usize, &[u8])] = &[("p", 1, b"> te"), ("s", 4, b"> text")];
+const SAME_READS: &[Read<'_>] = &[("p", 1, Some(b"> te")), ("s", 4, Some(b"> text"))];
 
 #[test]
-fn same_files_have_each_name(rt: HostRuntime) -> Result<(), Fail> {
-    let alloc = rt.alloc();
-    let text = Seq::from_slice(alloc, b"text")?;
-    expect_reads(alloc, &mut SameFiles::make(text), SAME_READS)
+fn same_files_have_each_name(rt: HostRuntime) {
+    let text = Seq::from_slice(rt.alloc(), b"text").expect(&rt, "a text");
+    let mut files = SameFiles::make(text);
+    reads_told(rt.alloc(), &mut files, SAME_READS).expect(&rt, "a read");
 }

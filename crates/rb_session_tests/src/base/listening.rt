@@ -1,82 +1,88 @@
 // Listeners: the sessions that come at an address, and how they come back.
 
-use crate::expected::{expect, expect_bytes};
+use crate::expected::Told;
 use rb_base::{
     Coming, Listen, ListenStop, MemoryListen, MemorySink, MemorySource, Sink, Source, SteadyListen,
     write_whole,
 };
 use rb_trees::{Memory, Seq};
 use std::alloc::Global;
-use std::test::Fail;
 
-/// Two sessions under the address `a`, of which no call fails.
+/// A session of which no call fails.
+fn coming(alloc: Global, bytes: &[u8]) -> Result<Coming, Memory> {
+    Ok(Coming {
+        bytes: Seq::from_slice(alloc, bytes)?,
+        reads: Seq::new(alloc),
+        writes: Seq::new(alloc),
+    })
+}
+
+/// Two sessions under the address `a`.
 fn two_sessions(alloc: Global) -> Result<Seq<(Seq<u8>, Seq<Coming>)>, Memory> {
     let mut sessions = Seq::new(alloc);
-    for bytes in [b"one", b"two"] {
-        sessions.push(Coming {
-            bytes: Seq::from_slice(alloc, bytes)?,
-            reads: Seq::new(alloc),
-            writes: Seq::new(alloc),
-        })?;
-    }
+    sessions.push(coming(alloc, b"one")?)?;
+    sessions.push(coming(alloc, b"two")?)?;
     let mut addresses = Seq::new(alloc);
     addresses.push((Seq::from_slice(alloc, b"a")?, sessions))?;
     Ok(addresses)
 }
 
 /// Reads once from a session, writes the three bytes of its buffer, and says how much was read.
-fn word_of_session<S: Source, K: Sink>(source: &mut S, sink: &mut K) -> &'static [u8] {
+fn word_of_session<S: Source, K: Sink>(source: &mut S, sink: &mut K) -> &'static str {
     let mut buffer = *b"...";
     let read = source.read(&mut buffer);
     let written = write_whole(sink, &buffer);
     match (read, written) {
-        (Ok(2), Ok(())) => b"two bytes",
-        (Ok(3), Ok(())) => b"three bytes",
-        _ => b"another session",
+        (Ok(2), Ok(())) => "two bytes",
+        (Ok(3), Ok(())) => "three bytes",
+        _ => "another session",
     }
 }
 
 /// Serves the next session and gives it back, and says what it came to.
-fn word_of_next<N: Listen>(listen: &mut N) -> &'static [u8] {
+fn word_of_next<N: Listen>(listen: &mut N) -> &'static str {
     match listen.next() {
         Ok(Some((mut source, mut sink))) => {
             let word = word_of_session(&mut source, &mut sink);
             listen.back(source, sink);
             word
         }
-        Ok(None) => b"no session",
-        Err(ListenStop::Failed) => b"failed",
-        Err(ListenStop::Memory) => b"out of memory",
+        Ok(None) => "no session",
+        Err(ListenStop::Failed) => "failed",
+        Err(ListenStop::Memory) => "out of memory",
     }
 }
 
-/// Says what a call came to: the start of an address, or of the next session, where there is none.
-fn word_of_call<N: Listen>(listen: &mut N, address: Option<&str>) -> &'static [u8] {
-    match address {
-        Some(address) => match listen.start(address) {
-            Ok(()) => b"started",
-            Err(_) => b"failed",
-        },
+/// Starts of addresses, and of the next session where there is none, with what they come to.
+type Call<'a> = (Option<&'a str>, &'a str);
+
+/// Says what a call comes to that comes to something else.
+fn call_told<N: Listen>(listen: &mut N, (address, want): &Call<'_>) -> Told {
+    let word = match address {
+        Some(address) if listen.start(address).is_ok() => "started",
+        Some(_) => "failed",
         None => word_of_next(listen),
-    }
+    };
+    if word == *want { Ok(()) } else { Err(word) }
 }
 
-/// Fails at the first such call that comes to something else.
-fn expect_calls<N: Listen>(listen: &mut N, rows: &[(Option<&str>, &[u8])]) -> Result<(), Fail> {
-    for (address, want) in rows {
-        expect_bytes(word_of_call(listen, *address), want)?;
+/// Says what the first such call comes to.
+fn calls_told<N: Listen>(listen: &mut N, calls: &[Call<'_>]) -> Told {
+    let mut told = Ok(());
+    for call in calls {
+        told = told.and(call_told(listen, call));
     }
-    Ok(())
+    told
 }
 
-/// Calls of a listener of which the third is listed, with what they come to.
-const CALLS: &[(Option<&str>, &[u8])] = &[
-    (Some("b"), b"failed"),
-    (Some("a"), b"started"),
-    (None, b"failed"),
-    (None, b"two bytes"),
-    (None, b"two bytes"),
-    (None, b"no session"),
+/// Calls of a listener of which the third is listed.
+const CALLS: &[Call<'_>] = &[
+    (Some("b"), "failed"),
+    (Some("a"), "started"),
+    (None, "failed"),
+    (None, "two bytes"),
+    (None, "two bytes"),
+    (None, "no session"),
 ];
 
 /// Whether the ends of a session have these bytes left, and these written.
@@ -92,38 +98,25 @@ fn both_came_back(listen: &MemoryListen) -> bool {
     }
 }
 
-/// Makes those calls.
-fn hand_out(listen: &mut MemoryListen) -> Result<(), Fail> {
-    expect_calls(listen, CALLS)?;
-    expect(both_came_back(listen), "other sessions came back")
-}
-
 #[test]
-fn a_listener_hands_out_the_sessions_of_its_address(rt: HostRuntime) -> Result<(), Fail> {
-    let alloc = rt.alloc();
-    let failing = Seq::from_slice(alloc, &[3])?;
-    hand_out(&mut MemoryListen::make(alloc, two_sessions(alloc)?, failing, 2))
+fn a_listener_hands_out_the_sessions_of_its_address(rt: HostRuntime) {
+    let failing = Seq::from_slice(rt.alloc(), &[3]).expect(&rt, "a list");
+    let sessions = two_sessions(rt.alloc()).expect(&rt, "sessions");
+    let mut listen = MemoryListen::make(rt.alloc(), sessions, failing, 2);
+    calls_told(&mut listen, CALLS).expect(&rt, "a call");
+    assert!(rt; both_came_back(&listen), "other sessions came back");
 }
 
-/// Calls of a listener with one session at each address, with what they come to.
-const STEADY_CALLS: &[(Option<&str>, &[u8])] = &[
-    (None, b"no session"),
-    (Some("a"), b"started"),
-    (None, b"three bytes"),
-    (None, b"no session"),
-    (Some("b"), b"started"),
-    (None, b"three bytes"),
-    (None, b"no session"),
+/// Calls of a listener with one session at each address.
+const STEADY_CALLS: &[Call<'_>] = &[
+    (None, "no session"),
+    (Some("a"), "started"),
+    (None, "three bytes"),
+    (None, "no session"),
+    (Some("b"), "started"),
+    (None, "three bytes"),
+    (None, "no session"),
 ];
-
-/// Makes those calls.
-fn hand_out_steadily(listen: &mut SteadyListen) -> Result<(), Fail> {
-    expect_calls(listen, STEADY_CALLS)?;
-    expect(
-        listen.returned().len() == 2,
-        "another number of sessions came back",
-    )
-}
 
 /// One session.
 fn one_session(alloc: Global) -> Result<Seq<Seq<u8>>, Memory> {
@@ -133,7 +126,9 @@ fn one_session(alloc: Global) -> Result<Seq<Seq<u8>>, Memory> {
 }
 
 #[test]
-fn a_steady_listener_has_each_address(rt: HostRuntime) -> Result<(), Fail> {
-    let alloc = rt.alloc();
-    hand_out_steadily(&mut SteadyListen::make(alloc, one_session(alloc)?))
+fn a_steady_listener_has_each_address(rt: HostRuntime) {
+    let sessions = one_session(rt.alloc()).expect(&rt, "a session");
+    let mut listen = SteadyListen::make(rt.alloc(), sessions);
+    calls_told(&mut listen, STEADY_CALLS).expect(&rt, "a call");
+    assert!(rt; listen.returned().len() == 2, "another number of sessions came back");
 }

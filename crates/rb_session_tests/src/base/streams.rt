@@ -1,10 +1,10 @@
 // Sinks and sources: the pieces that they take and give, and where they fail.
 
-use crate::expected::expect;
+use crate::ends::{Ends, source_of};
+use crate::expected::{NO_MEMORY, Told, told};
 use rb_base::{MemorySink, MemorySource, NullSink, Sink, Source, SteadySource, write_whole};
 use rb_trees::Seq;
 use std::alloc::Global;
-use std::test::Fail;
 
 /// How many bytes of a piece are taken by one write, or by as many as it takes; None where a write fails.
 fn taken<K: Sink>(sink: &mut K, piece: &[u8], is_whole: bool) -> Option<usize> {
@@ -18,19 +18,8 @@ fn taken<K: Sink>(sink: &mut K, piece: &[u8], is_whole: bool) -> Option<usize> {
     }
 }
 
-/// Fails at the first piece of which a sink takes another number of bytes, or has other bytes then.
-fn expect_taken(
-    sink: &mut MemorySink,
-    rows: &[(&[u8], bool, Option<usize>, &[u8])],
-) -> Result<(), Fail> {
-    for (piece, is_whole, count, written) in rows {
-        let is_wanted = taken(sink, piece, *is_whole) == *count && sink.written() == *written;
-        expect(is_wanted, "other bytes are taken or written")?;
-    }
-    Ok(())
-}
-
-/// Pieces for a sink that takes one byte at once, and whose third write is listed.
+/// Pieces for a sink that takes one byte at once, and whose third write is listed: whether each is written whole, how many of
+/// its bytes are taken, and what is written then.
 const PIECES: &[(&[u8], bool, Option<usize>, &[u8])] = &[
     (b"abc", true, None, b"ab"),
     (b"cd", true, Some(2), b"abcd"),
@@ -38,17 +27,20 @@ const PIECES: &[(&[u8], bool, Option<usize>, &[u8])] = &[
 ];
 
 #[test]
-fn a_piece_is_written_byte_by_byte_up_to_a_fault(rt: HostRuntime) -> Result<(), Fail> {
-    let alloc = rt.alloc();
-    let failing = Seq::from_slice(alloc, &[3])?;
-    expect_taken(&mut MemorySink::make(alloc, failing, 1), PIECES)
+fn a_piece_is_written_byte_by_byte_up_to_a_fault(rt: HostRuntime) {
+    let failing = Seq::from_slice(rt.alloc(), &[3]).expect(&rt, "a list");
+    let mut sink = MemorySink::make(rt.alloc(), failing, 1);
+    for (piece, is_whole, count, written) in PIECES {
+        let taken = taken(&mut sink, piece, *is_whole);
+        assert!(rt; taken == *count && sink.written() == *written);
+    }
 }
 
 #[test]
-fn a_null_sink_takes_all(_rt: HostRuntime) -> Result<(), Fail> {
-    let whole = taken(&mut NullSink, b"abc", true);
-    let once = taken(&mut NullSink, b"abc", false);
-    expect(whole == Some(3) && once == Some(3), "a part alone")
+fn a_null_sink_takes_all(rt: HostRuntime) {
+    for is_whole in [true, false] {
+        assert!(rt; taken(&mut NullSink, b"abc", is_whole) == Some(3));
+    }
 }
 
 /// Whether a read into so many dots, up to three, gives these bytes and leaves the dots behind them; or fails, where None are
@@ -65,65 +57,71 @@ fn reads_so<S: Source>(source: &mut S, size: usize, want: Option<&[u8]>) -> bool
     }
 }
 
-/// Fails at the first such read that goes otherwise, or leaves other bytes.
-fn expect_reads(
-    source: &mut MemorySource,
-    rows: &[(usize, Option<&[u8]>, &[u8])],
-) -> Result<(), Fail> {
-    for (size, want, left) in rows {
-        let is_wanted = reads_so(source, *size, *want) && source.left() == *left;
-        expect(is_wanted, "other bytes are read or left")?;
-    }
-    Ok(())
-}
+/// A source of these bytes, of which these reads fail and the others give two bytes at most; and reads, with what they give and
+/// what is left then.
+type Case<'a> = (&'a [u8], &'a [u64], &'a [(usize, Option<&'a [u8]>, &'a [u8])]);
 
-/// The same of a source of these bytes, of which these reads fail and the others give two bytes at most.
-fn expect_reads_of(
-    alloc: Global,
-    (bytes, failing): (&[u8], &[u64]),
-    rows: &[(usize, Option<&[u8]>, &[u8])],
-) -> Result<(), Fail> {
-    let bytes = Seq::from_slice(alloc, bytes)?;
-    let failing = Seq::from_slice(alloc, failing)?;
-    expect_reads(&mut MemorySource::make(bytes, failing, 2), rows)
-}
-
-/// Reads up to the end of a source, with what they give and what is left then.
-const READS: &[(usize, Option<&[u8]>, &[u8])] = &[
-    (3, Some(b"ab"), b"cde"),
-    (3, Some(b"cd"), b"e"),
-    (3, Some(b"e"), b""),
-    (3, Some(b""), b""),
+const CASES: &[Case<'_>] = &[
+    // Up to the end.
+    (
+        b"abcde",
+        &[],
+        &[
+            (3, Some(b"ab"), b"cde"),
+            (3, Some(b"cd"), b"e"),
+            (3, Some(b"e"), b""),
+            (3, Some(b""), b""),
+        ],
+    ),
+    // A read that is listed, and the next one.
+    (
+        b"abc",
+        &[1],
+        &[(3, None, b"abc"), (1, Some(b"a"), b"bc")],
+    ),
 ];
 
-#[test]
-fn a_source_gives_pieces_and_then_its_end(rt: HostRuntime) -> Result<(), Fail> {
-    expect_reads_of(rt.alloc(), (b"abcde", &[]), READS)
-}
-
-/// A read that is listed, and the next one.
-const LISTED: &[(usize, Option<&[u8]>, &[u8])] = &[(3, None, b"abc"), (1, Some(b"a"), b"bc")];
-
-#[test]
-fn a_listed_read_fails_and_takes_nothing(rt: HostRuntime) -> Result<(), Fail> {
-    expect_reads_of(rt.alloc(), (b"abc", &[1]), LISTED)
-}
-
-/// Whether reads into three dots give these bytes, one after the other.
-fn all_read_so<S: Source>(source: &mut S, wants: &[&[u8]]) -> bool {
-    for want in wants {
-        if !reads_so(source, 3, Some(*want)) {
-            return false;
-        }
+/// Whether reads of a source give these bytes, and leave these.
+fn are_read(source: &mut MemorySource, reads: &[(usize, Option<&[u8]>, &[u8])]) -> bool {
+    let mut are_read = true;
+    for (size, want, left) in reads {
+        are_read &= reads_so(source, *size, *want) && source.left() == *left;
     }
-    true
+    are_read
+}
+
+/// Says what goes otherwise in a case.
+fn case_told(alloc: Global, (bytes, failing, reads): &Case<'_>) -> Told {
+    let ends = Ends {
+        streams: &[*bytes],
+        most_read: 2,
+        most_written: 2,
+        reads: failing,
+        writes: &[],
+    };
+    match source_of(alloc, &ends) {
+        Ok(mut source) => told(are_read(&mut source, reads), "other bytes are read or left"),
+        Err(_) => Err(NO_MEMORY),
+    }
 }
 
 #[test]
-fn a_steady_source_fills_its_buffer(rt: HostRuntime) -> Result<(), Fail> {
-    let mut source = SteadySource::make(Seq::from_slice(rt.alloc(), b"abcd")?);
-    expect(
-        all_read_so(&mut source, &[b"abc", b"d", b""]),
-        "another piece",
-    )
+fn a_source_gives_pieces_and_then_its_end_unless_a_read_is_listed(rt: HostRuntime) -> Told {
+    let mut told = Ok(());
+    for case in CASES {
+        told = told.and(case_told(rt.alloc(), case));
+    }
+    told
+}
+
+/// What reads into three dots give, one after the other.
+const STEADY_PIECES: &[&[u8]] = &[b"abc", b"d", b""];
+
+#[test]
+fn a_steady_source_fills_its_buffer(rt: HostRuntime) {
+    let bytes = Seq::from_slice(rt.alloc(), b"abcd").expect(&rt, "bytes");
+    let mut source = SteadySource::make(bytes);
+    for want in STEADY_PIECES {
+        assert!(rt; reads_so(&mut source, 3, Some(*want)), "another piece");
+    }
 }

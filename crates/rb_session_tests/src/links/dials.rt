@@ -1,118 +1,298 @@
-// What is dialled, in memory.
+// What is dialled, and the links that are had so, in memory.
 
-use crate::expected::{expect, expect_bytes};
-use crate::hosts::{CALL, number_host};
-use rb_base::{Link, LinkStop};
-use rb_session::{AnyLink, Dial, DialStop, FailingLink, MemoryDial, MemoryLink, NullDial, Target};
+ghost use Rattle.std.specs.Prelude.{◌≡◌, IfOk};
+
+use crate::expected::{NO_MEMORY, Told, told};
+use crate::hosts::{CALL, CALL_REPLY, NUMBER, SHORT_CALL, SHORT_CALL_REPLY, host_of};
+use crate::links::exchanges::{Exchanged, Outcome, exchange_told};
+use rb_base::Link;
+use rb_heap::Heap;
+use rb_session::{
+    AnyLink, Dial, DialStop, Exchange, FailingLink, MemoryDial, MemoryLink, NullDial, Target,
+};
 use rb_trees::{Memory, Seq};
 use std::alloc::Global;
-use std::test::Fail;
 
-/// Says what an exchange of the call over a link comes to, and whether the link has a table.
-fn word_of_link<L: Link>(link: &mut L) -> &'static [u8] {
-    let answer = link.exchange(CALL);
-    match (&answer, link.table()) {
-        (Ok(reply), Some(_)) if reply.kind == 2 => b"a forest, and a table",
-        (Ok(reply), None) if reply.kind == 2 => b"a forest, and no table",
-        (Err(LinkStop::Cut { got: 0, bytes: _ }), None) => b"no byte, and no table",
-        (Err(LinkStop::Memory), _) => b"out of memory",
-        _ => b"another answer",
+/// Where a link is had from, as a table has it.
+#[derive(Clone, Copy)]
+enum Origin<'a> {
+    Address(&'a [u8]),
+    Child(&'a [u8]),
+    /// It is a link in memory, which goes round the dial.
+    Memory,
+}
+
+/// Where a link is had from; whether its dial fails; and the exchanges over it, behind which it is given back.
+type Call<'a> = (Origin<'a>, bool, &'a [Exchanged<'a>]);
+
+/// The target that is dialled, if one is.
+fn target_of(alloc: Global, from: Origin<'_>) -> Result<Option<Target>, Memory> {
+    match from {
+        Origin::Address(name) => Ok(Some(Target::Address(Seq::from_slice(alloc, name)?))),
+        Origin::Child(name) => Ok(Some(Target::Child(Seq::from_slice(alloc, name)?))),
+        Origin::Memory => Ok(None),
     }
 }
 
-/// Dials a target and gives the link back, and says what came of it.
-fn word_of_dial<D: Dial>(dial: &mut D, target: &Target) -> &'static [u8] {
+/// Says what goes otherwise in exchanges over a link, or in whether it has a table.
+fn link_told<L: Link>(link: &mut L, exchanges: &[Exchanged<'_>], has_table: bool) -> Told {
+    let mut exchanged = Ok(());
+    for exchange in exchanges {
+        exchanged = exchanged.and(exchange_told(link, exchange));
+    }
+    exchanged.and(told(link.table().is_some() == has_table, "a table, or none"))
+}
+
+/// Says what goes otherwise where a target is dialled. A dialled link has no table.
+fn dial_told<D: Dial>(dial: &mut D, target: &Target, (_, fails, exchanges): &Call<'_>) -> Told {
     match dial.dial(target) {
         Ok(mut link) => {
-            let word = word_of_link(&mut link);
+            let exchanged = link_told(&mut link, exchanges, false);
             dial.back(link);
-            word
+            told(!*fails, "a dial doesn't fail").and(exchanged)
         }
-        Err(DialStop::Failed) => b"failed",
-        Err(DialStop::Memory) => b"out of memory",
+        Err(DialStop::Failed) => told(*fails, "a dial fails"),
+        Err(DialStop::Memory) => Err(NO_MEMORY),
     }
 }
 
-/// Takes a link to a server round a dial and gives it back, and says what came of it.
-fn word_of_around<D: Dial>(alloc: Global, dial: &mut D) -> Result<&'static [u8], Fail> {
-    let mut link = dial.around(MemoryLink::make(alloc, number_host(alloc)?)?)?;
-    let word = word_of_link(&mut link);
-    dial.back(link);
-    Ok(word)
-}
-
-fn address(alloc: Global, name: &[u8]) -> Result<Target, Memory> {
-    Ok(Target::Address(Seq::from_slice(alloc, name)?))
-}
-
-fn child(alloc: Global, name: &[u8]) -> Result<Target, Memory> {
-    Ok(Target::Child(Seq::from_slice(alloc, name)?))
-}
-
-/// Adds a link to a target, of which no exchange fails.
-fn add_link(alloc: Global, dial: &mut MemoryDial<FailingLink>, target: Target) -> Result<(), Fail> {
-    let link = FailingLink::make(alloc, number_host(alloc)?, Seq::new(alloc))?;
-    Ok(dial.add(target, link)?)
-}
-
-/// Fails at the first address that comes to something else when it is dialled.
-fn expect_dials<D: Dial>(alloc: Global, dial: &mut D, rows: &[(&[u8], &[u8])]) -> Result<(), Fail> {
-    for (name, want) in rows {
-        let target = address(alloc, name)?;
-        expect_bytes(word_of_dial(dial, &target), want)?;
+/// Says what goes otherwise where a link in memory goes round a dial. It has a table.
+fn around_told<D: Dial>(dial: &mut D, link: MemoryLink, exchanges: &[Exchanged<'_>]) -> Told {
+    match dial.around(link) {
+        Ok(mut link) => {
+            let exchanged = link_told(&mut link, exchanges, true);
+            dial.back(link);
+            exchanged
+        }
+        Err(_) => Err(NO_MEMORY),
     }
-    Ok(())
 }
 
-/// Whether just one link came back, which was dialled or not, and had one exchange.
-fn one_came_back(dial: &MemoryDial<FailingLink>, is_dialled: bool) -> bool {
+/// A link in memory to the host whose method gives a number.
+fn memory_link(alloc: Global) -> Result<MemoryLink, &'static str> {
+    match host_of(alloc, NUMBER) {
+        Ok(host) => match MemoryLink::make(alloc, host) {
+            Ok(link) => Ok(link),
+            Err(_) => Err(NO_MEMORY),
+        },
+        Err(why) => Err(why),
+    }
+}
+
+/// Says what goes otherwise in a call of a dial.
+fn call_told<D: Dial>(alloc: Global, dial: &mut D, call: &Call<'_>) -> Told {
+    match target_of(alloc, call.0) {
+        Ok(Some(target)) => dial_told(dial, &target, call),
+        Ok(None) => match memory_link(alloc) {
+            Ok(link) => around_told(dial, link, call.2),
+            Err(why) => Err(why),
+        },
+        Err(_) => Err(NO_MEMORY),
+    }
+}
+
+/// Says what goes otherwise in calls.
+fn calls_told<D: Dial>(alloc: Global, dial: &mut D, calls: &[Call<'_>]) -> Told {
+    let mut called = Ok(());
+    for call in calls {
+        called = called.and(call_told(alloc, dial, call));
+    }
+    called
+}
+
+/// A link to the same host, of which these exchanges fail.
+fn failing_link(alloc: Global, failing: &[u64]) -> Result<FailingLink, &'static str>
+    ensures { IfOk result (λ link. link.faults ≡ 0) }
+{
+    match host_of(alloc, NUMBER) {
+        Ok(host) => match Seq::from_slice(alloc, failing) {
+            Ok(failing) => match FailingLink::make(alloc, host, failing) {
+                Ok(link) => Ok(link),
+                Err(_) => Err(NO_MEMORY),
+            },
+            Err(_) => Err(NO_MEMORY),
+        },
+        Err(why) => Err(why),
+    }
+}
+
+/// A link that waits: where it is had from, and which of its exchanges fail.
+type Waiting<'a> = (Origin<'a>, &'a [u64]);
+
+/// Adds such a link to a dial.
+fn added(alloc: Global, dial: &mut MemoryDial<FailingLink>, (from, failing): &Waiting<'_>) -> Told {
+    match target_of(alloc, *from) {
+        Ok(Some(target)) => match failing_link(alloc, failing) {
+            Ok(link) => told(dial.add(target, link).is_ok(), NO_MEMORY),
+            Err(why) => Err(why),
+        },
+        _ => Err(NO_MEMORY),
+    }
+}
+
+/// A dial of which these calls fail, where these links wait; calls of it; and what is wanted of the one link that came back: whether
+/// it was dialled, its pairs, and how many of its exchanges failed.
+struct Case<'a> {
+    failing: &'a [u64],
+    waiting: &'a [Waiting<'a>],
+    calls: &'a [Call<'a>],
+    is_dialled: bool,
+    pairs: &'a [Exchanged<'a>],
+    faults: u64,
+}
+
+/// Whether a pair is an exchange.
+fn is_pair(pair: &Exchange, (request, outcome, kept): &Exchanged<'_>) -> bool {
+    matches!(outcome, Outcome::Reply(kind) if *kind == pair.kind)
+        && pair.request.as_slice() == *request
+        && pair.reply.as_slice() == *kept
+}
+
+/// Whether a link has these pairs, and had one object first and has one now.
+fn has_kept(
+    pairs: &[Exchange],
+    wants: &[Exchanged<'_>],
+    first: &Heap,
+    table: Option<&Heap>,
+) -> bool {
+    let mut are_pairs = pairs.len() == wants.len();
+    for (pair, want) in pairs.iter().zip(wants) {
+        are_pairs &= is_pair(pair, want);
+    }
+    let objects = match table {
+        Some(table) => table.len(),
+        None => 0,
+    };
+    are_pairs && first.len() == 1 && objects == 1
+}
+
+/// Whether just the link came back that a case says.
+fn has_come_back(dial: &MemoryDial<FailingLink>, case: &Case<'_>) -> bool {
     match dial.came_back() {
-        [AnyLink::Dialled(link)] => is_dialled && link.pairs().len() == 1,
-        [AnyLink::Around(link)] => !is_dialled && link.pairs().len() == 1,
+        [AnyLink::Dialled(link)] => {
+            case.is_dialled
+                && link.faults() == case.faults
+                && link.host().table().len() == 1
+                && has_kept(link.pairs(), case.pairs, link.first_table(), link.table())
+        }
+        [AnyLink::Around(link)] => {
+            !case.is_dialled
+                && has_kept(link.pairs(), case.pairs, link.first_table(), link.table())
+        }
         _ => false,
     }
 }
 
-/// Addresses in the order in which they are dialled, with what they come to. The third dial is listed.
-const DIALS: &[(&[u8], &[u8])] = &[
-    (b"b", b"failed"),
-    (b"a", b"a forest, and no table"),
-    (b"a", b"failed"),
-    (b"a", b"failed"),
+/// Says what goes otherwise in a case.
+fn dialled_told(alloc: Global, dial: &mut MemoryDial<FailingLink>, case: &Case<'_>) -> Told {
+    let mut waiting = Ok(());
+    for link in case.waiting {
+        waiting = waiting.and(added(alloc, dial, link));
+    }
+    waiting
+        .and(calls_told(alloc, dial, case.calls))
+        .and(told(has_come_back(dial, case), "another link came back"))
+}
+
+/// The same with a new dial.
+fn case_told(alloc: Global, case: &Case<'_>) -> Told {
+    match Seq::from_slice(alloc, case.failing) {
+        Ok(failing) => dialled_told(alloc, &mut MemoryDial::make(alloc, failing), case),
+        Err(_) => Err(NO_MEMORY),
+    }
+}
+
+/// The call, and its reply.
+const CALLED: Exchanged<'_> = (CALL, Outcome::Reply(2), CALL_REPLY);
+
+/// The same in version 2.
+const CALLED_SHORT: Exchanged<'_> = (SHORT_CALL, Outcome::Reply(2), SHORT_CALL_REPLY);
+
+/// A payload that has no version, and its reply.
+const REFUSED: Exchanged<'_> = (b"\x07", Outcome::Reply(3), b"\x01\x02\x00\x00\x00\x00");
+
+/// The call, where an exchange fails.
+const LOST: Exchanged<'_> = (CALL, Outcome::Failed, b"");
+
+/// An address, and a name.
+const A: Origin<'_> = Origin::Address(b"a");
+const B: Origin<'_> = Origin::Address(b"b");
+
+const CASES: &[Case<'_>] = &[
+    // A dial takes the first link of its target. The third one is listed, and the fourth finds no link.
+    Case {
+        failing: &[3],
+        waiting: &[(A, &[]), (Origin::Child(b"b"), &[])],
+        calls: &[
+            (B, true, &[]),
+            (A, false, &[CALLED]),
+            (A, true, &[]),
+            (A, true, &[]),
+        ],
+        is_dialled: true,
+        pairs: &[CALLED],
+        faults: 0,
+    },
+    // A link in memory goes round a dial that fails, and keeps each exchange as a pair.
+    Case {
+        failing: &[1],
+        waiting: &[],
+        calls: &[(Origin::Memory, false, &[CALLED])],
+        is_dialled: false,
+        pairs: &[CALLED],
+        faults: 0,
+    },
+    Case {
+        failing: &[],
+        waiting: &[],
+        calls: &[(Origin::Memory, false, &[CALLED, CALLED_SHORT, REFUSED])],
+        is_dialled: false,
+        pairs: &[CALLED, CALLED_SHORT, REFUSED],
+        faults: 0,
+    },
+    // A listed exchange fails and leaves no pair.
+    Case {
+        failing: &[],
+        waiting: &[(A, &[2])],
+        calls: &[(A, false, &[CALLED])],
+        is_dialled: true,
+        pairs: &[CALLED],
+        faults: 0,
+    },
+    Case {
+        failing: &[],
+        waiting: &[(A, &[2])],
+        calls: &[(A, false, &[CALLED, LOST])],
+        is_dialled: true,
+        pairs: &[CALLED],
+        faults: 1,
+    },
+    Case {
+        failing: &[],
+        waiting: &[(A, &[2])],
+        calls: &[(A, false, &[CALLED, LOST, CALLED])],
+        is_dialled: true,
+        pairs: &[CALLED, CALLED],
+        faults: 1,
+    },
 ];
 
-/// Adds a link under an address and one to a child, and dials.
-fn dial_all(alloc: Global, dial: &mut MemoryDial<FailingLink>) -> Result<(), Fail> {
-    add_link(alloc, dial, address(alloc, b"a")?)?;
-    add_link(alloc, dial, child(alloc, b"b")?)?;
-    expect_dials(alloc, dial, DIALS)?;
-    expect(one_came_back(dial, true), "another link came back")
+#[test]
+fn dials_and_their_links_go_as_the_cases_say(rt: HostRuntime) -> Told {
+    let mut told = Ok(());
+    for case in CASES {
+        told = told.and(case_told(rt.alloc(), case));
+    }
+    told
 }
+
+/// Calls of a dial whose links lead nowhere.
+const NULL_CALLS: &[Call<'_>] = &[
+    (A, false, &[(CALL, Outcome::Cut(0), b"")]),
+    (Origin::Memory, false, &[CALLED]),
+];
 
 #[test]
-fn a_dial_takes_the_first_link_of_its_target(rt: HostRuntime) -> Result<(), Fail> {
-    let alloc = rt.alloc();
-    let failing = Seq::from_slice(alloc, &[3])?;
-    dial_all(alloc, &mut MemoryDial::make(alloc, failing))
-}
-
-/// Takes a link round a dial in memory.
-fn go_round(alloc: Global, dial: &mut MemoryDial<FailingLink>) -> Result<(), Fail> {
-    expect_bytes(word_of_around(alloc, dial)?, b"a forest, and a table")?;
-    expect(one_came_back(dial, false), "another link came back")
-}
-
-#[test]
-fn a_link_in_memory_goes_round_a_dial(rt: HostRuntime) -> Result<(), Fail> {
-    let alloc = rt.alloc();
-    let failing = Seq::from_slice(alloc, &[1])?;
-    go_round(alloc, &mut MemoryDial::make(alloc, failing))
-}
-
-#[test]
-fn a_link_of_the_null_dial_leads_nowhere(rt: HostRuntime) -> Result<(), Fail> {
-    let alloc = rt.alloc();
-    let mut dial = NullDial::make(alloc);
-    expect_dials(alloc, &mut dial, &[(b"a", b"no byte, and no table")])?;
-    expect_bytes(word_of_around(alloc, &mut dial)?, b"a forest, and a table")
+fn a_link_of_the_null_dial_leads_nowhere(rt: HostRuntime) -> Told {
+    calls_told(rt.alloc(), &mut NullDial::make(rt.alloc()), NULL_CALLS)
 }

@@ -1,12 +1,12 @@
 // Links over frames, with both ends in memory.
 
-use crate::expected::expect;
-use crate::hosts::CALL;
-use rb_base::{Link, LinkStop, MemorySink, MemorySource, Reply};
+use crate::ends::{Ends, ends_of};
+use crate::expected::{NO_MEMORY, Told, told};
+use crate::hosts::{CALL, CALL_REPLY};
+use crate::links::exchanges::{Outcome, exchange_told};
+use rb_base::{Link, MemorySink, MemorySource};
 use rb_session::FrameLink;
-use rb_trees::{Memory, Seq};
 use std::alloc::Global;
-use std::test::Fail;
 
 /// The frame of the call.
 const SENT: &[u8] =
@@ -16,199 +16,195 @@ const SENT: &[u8] =
 const RECEIVED: &[u8] =
     b"RB\x02\x00\x00\x00\x00\x00\x00\x00\x10\x01\x00\x00\x00\x01\x31\x01\x00\x00\x00\x00\x00\x00\x00\x07\x00R";
 
-/// The payload of that reply.
-const REPLY: &[u8] = b"\x01\x00\x00\x00\x01\x31\x01\x00\x00\x00\x00\x00\x00\x00\x07\x00";
+/// What is left of that behind its header.
+const RECEIVED_END: &[u8] =
+    b"\x01\x00\x00\x00\x01\x31\x01\x00\x00\x00\x00\x00\x00\x00\x07\x00R";
 
-/// A link whose source has these bytes. Its ends take and give so many bytes at once, and their listed calls fail.
-fn link_over(
-    alloc: Global,
-    bytes: &[u8],
-    most: usize,
-    reads: &[u64],
-    writes: &[u64],
-) -> Result<FrameLink<MemorySource, MemorySink>, Memory> {
-    let most = most.max(1);
-    let bytes = Seq::from_slice(alloc, bytes)?;
-    let reads = Seq::from_slice(alloc, reads)?;
-    let sink = MemorySink::make(alloc, Seq::from_slice(alloc, writes)?, most);
-    Ok(FrameLink::make(alloc, MemorySource::make(bytes, reads, most), sink))
-}
-
-/// What an exchange comes to.
-#[derive(Clone, Copy)]
-enum Outcome {
-    /// A reply of this kind.
-    Reply(u8),
-    /// A fault of an end.
-    Failed,
-    /// The end of the source behind so many bytes.
-    Cut(u64),
-    /// A wrong byte at this place.
-    Frame(u64),
-}
-
-/// Such a link, and what is wanted of an exchange of the call over it.
+/// A link whose source has these bytes, and whose ends move so many at once, of which these reads and these writes fail; and what is
+/// wanted of an exchange of the call over it.
 #[derive(Clone, Copy)]
 struct Case<'a> {
     bytes: &'a [u8],
     most: usize,
     reads: &'a [u64],
     writes: &'a [u64],
-    outcome: Outcome,
-    /// The bytes that the answer keeps: all that were taken, or of a reply the payload.
-    kept: &'a [u8],
+    /// What the exchange comes to, if there is one.
+    outcome: Option<Outcome>,
     /// How many bytes of the call's frame are written.
     written: usize,
     /// The bytes that the source has left.
     left: &'a [u8],
 }
 
-/// Whether an exchange was answered as a case wants it.
-fn is_answered(answer: &Result<Reply, LinkStop>, case: &Case<'_>) -> bool {
-    match (answer, case.outcome) {
-        (Ok(reply), Outcome::Reply(kind)) => {
-            reply.kind == kind && reply.payload.as_slice() == case.kept
-        }
-        (Err(LinkStop::Cut { got, bytes }), Outcome::Cut(count)) => {
-            *got == count && bytes.as_slice() == case.kept
-        }
-        (Err(LinkStop::Frame { at, bytes }), Outcome::Frame(place)) => {
-            *at == place && bytes.as_slice() == case.kept
-        }
-        (Err(LinkStop::Failed), Outcome::Failed) => case.kept.is_empty(),
-        _ => false,
-    }
-}
-
 /// Whether the ends of a link stand as a case wants them.
-fn ends_stand(link: &FrameLink<MemorySource, MemorySink>, case: &Case<'_>) -> bool {
-    SENT.get(..case.written) == Some(link.sink().written()) && link.source().left() == case.left
+fn ends_stand(source: &MemorySource, sink: &MemorySink, case: &Case<'_>) -> bool {
+    SENT.get(..case.written) == Some(sink.written()) && source.left() == case.left
 }
 
-/// Fails where an exchange goes otherwise.
-fn expect_exchange(alloc: Global, case: &Case<'_>) -> Result<(), Fail> {
-    let mut link = link_over(alloc, case.bytes, case.most, case.reads, case.writes)?;
-    let answer = link.exchange(CALL);
-    expect(is_answered(&answer, case), "another answer")?;
-    expect(ends_stand(&link, case), "other bytes are written or left")
-}
-
-/// Fails at the first such exchange.
-fn expect_exchanges(alloc: Global, cases: &[Case<'_>]) -> Result<(), Fail> {
-    for case in cases {
-        expect_exchange(alloc, case)?;
+/// The bytes that an answer keeps: of a reply the payload, and of one that is broken or cut all its bytes.
+fn kept_of<'a>(outcome: Outcome, bytes: &'a [u8]) -> &'a [u8] {
+    match outcome {
+        Outcome::Reply(_) => CALL_REPLY,
+        Outcome::Frame(_) | Outcome::Cut(_) => bytes,
+        Outcome::Failed => b"",
     }
-    Ok(())
 }
 
-/// A whole reply, to be taken by so many bytes at once.
-fn whole(most: usize) -> Case<'static> {
+/// Says what goes otherwise over a link.
+fn link_told(link: &mut FrameLink<MemorySource, MemorySink>, case: &Case<'_>) -> Told {
+    let exchanged = match case.outcome {
+        Some(outcome) => exchange_told(link, &(CALL, outcome, kept_of(outcome, case.bytes))),
+        None => Ok(()),
+    };
+    let stand = ends_stand(link.source(), link.sink(), case) && link.table().is_none();
+    exchanged.and(told(stand, "other bytes are written or left, or there is a table"))
+}
+
+/// Says what goes otherwise in a case, and in the ends that come back.
+fn case_told(alloc: Global, case: &Case<'_>) -> Told {
+    let ends = Ends {
+        streams: &[case.bytes],
+        most_read: case.most,
+        most_written: case.most,
+        reads: case.reads,
+        writes: case.writes,
+    };
+    match ends_of(alloc, &ends) {
+        Ok((source, sink)) => {
+            let mut link = FrameLink::make(alloc, source, sink);
+            let exchanged = link_told(&mut link, case);
+            let (source, sink) = link.into_ends();
+            exchanged.and(told(ends_stand(&source, &sink, case), "other ends come back"))
+        }
+        Err(_) => Err(NO_MEMORY),
+    }
+}
+
+/// A whole reply, and then a byte more.
+const WHOLE: Case<'_> = Case {
+    bytes: RECEIVED,
+    most: 1,
+    reads: &[],
+    writes: &[],
+    outcome: Some(Outcome::Reply(2)),
+    written: 42,
+    left: b"R",
+};
+
+/// No exchange.
+const NONE: Case<'_> = Case {
+    outcome: None,
+    written: 0,
+    left: RECEIVED,
+    ..WHOLE
+};
+
+/// A reply all of whose bytes are taken, 64 at once, and that breaks its form.
+const BROKEN: Case<'_> = Case {
+    most: 64,
+    left: b"",
+    ..WHOLE
+};
+
+/// One all of whose bytes are taken, four at once, and that ends too early.
+const CUT: Case<'_> = Case {
+    most: 4,
+    left: b"",
+    ..WHOLE
+};
+
+/// An end that fails.
+const FAILED: Case<'_> = Case {
+    most: 20,
+    outcome: Some(Outcome::Failed),
+    left: RECEIVED,
+    ..WHOLE
+};
+
+const CASES: &[Case<'_>] = &[
+    // An exchange writes one frame and takes one.
+    WHOLE,
+    Case { most: 7, ..WHOLE },
     Case {
-        bytes: RECEIVED,
-        most,
-        reads: &[],
-        writes: &[],
-        outcome: Outcome::Reply(2),
-        kept: REPLY,
-        written: 42,
-        left: b"R",
-    }
-}
-
-#[test]
-fn an_exchange_writes_one_frame_and_takes_one(rt: HostRuntime) -> Result<(), Fail> {
-    expect_exchanges(rt.alloc(), &[whole(1), whole(7), whole(usize::MAX)])
-}
-
-#[test]
-fn the_ends_of_a_link_come_back(rt: HostRuntime) -> Result<(), Fail> {
-    let link = link_over(rt.alloc(), RECEIVED, 1, &[], &[])?;
-    let has_table = link.table().is_some();
-    let (source, sink) = link.into_ends();
-    let are_same = source.left() == RECEIVED && sink.written().is_empty();
-    expect(are_same && !has_table, "other ends, or a table")
-}
-
-/// Fails at the first reply, all of whose bytes are taken, that ends an exchange otherwise.
-fn expect_ends(alloc: Global, most: usize, rows: &[(&[u8], Outcome)]) -> Result<(), Fail> {
-    for (bytes, outcome) in rows {
-        let case = Case {
-            bytes,
-            most,
-            reads: &[],
-            writes: &[],
-            outcome: *outcome,
-            kept: bytes,
-            written: 42,
-            left: b"",
-        };
-        expect_exchange(alloc, &case)?;
-    }
-    Ok(())
-}
-
-#[test]
-fn a_reply_breaks_its_form_at_its_first_wrong_byte(rt: HostRuntime) -> Result<(), Fail> {
-    expect_ends(
-        rt.alloc(),
-        64,
-        &[
-            (b"B", Outcome::Frame(0)),
-            (b"RC\x02", Outcome::Frame(1)),
-            (b"RB\x01\x00\x00\x00\x00\x00\x00\x00\x00", Outcome::Frame(2)),
-            (b"RB\x04", Outcome::Frame(2)),
-            (b"XX\x02", Outcome::Frame(0)),
-        ],
-    )
-}
-
-#[test]
-fn a_reply_that_ends_too_early_is_cut(rt: HostRuntime) -> Result<(), Fail> {
-    expect_ends(
-        rt.alloc(),
-        4,
-        &[
-            (b"", Outcome::Cut(0)),
-            (b"RB", Outcome::Cut(2)),
-            (b"RB\x03\x00\x00", Outcome::Cut(5)),
-            (
-                b"RB\x02\x00\x00\x00\x00\x00\x00\x00\x05ab",
-                Outcome::Cut(13),
-            ),
-            // The greatest length, and then the end.
-            (b"RB\x02\xff\xff\xff\xff\xff\xff\xff\xff", Outcome::Cut(11)),
-        ],
-    )
-}
-
-/// An exchange of which this read or this write fails, where so many bytes are written and these left.
-fn failed<'a>(reads: &'a [u64], writes: &'a [u64], written: usize, left: &'a [u8]) -> Case<'a> {
+        most: usize::MAX,
+        ..WHOLE
+    },
+    NONE,
+    // A reply breaks its form at its first wrong byte.
     Case {
-        bytes: RECEIVED,
-        most: 20,
-        reads,
-        writes,
-        outcome: Outcome::Failed,
-        kept: b"",
-        written,
-        left,
-    }
-}
+        bytes: b"B",
+        outcome: Some(Outcome::Frame(0)),
+        ..BROKEN
+    },
+    Case {
+        bytes: b"RC\x02",
+        outcome: Some(Outcome::Frame(1)),
+        ..BROKEN
+    },
+    Case {
+        bytes: b"RB\x01\x00\x00\x00\x00\x00\x00\x00\x00",
+        outcome: Some(Outcome::Frame(2)),
+        ..BROKEN
+    },
+    Case {
+        bytes: b"RB\x04",
+        outcome: Some(Outcome::Frame(2)),
+        ..BROKEN
+    },
+    Case {
+        bytes: b"XX\x02",
+        outcome: Some(Outcome::Frame(0)),
+        ..BROKEN
+    },
+    // A reply that ends too early is cut. The last one says the greatest length.
+    Case {
+        bytes: b"",
+        outcome: Some(Outcome::Cut(0)),
+        ..CUT
+    },
+    Case {
+        bytes: b"RB",
+        outcome: Some(Outcome::Cut(2)),
+        ..CUT
+    },
+    Case {
+        bytes: b"RB\x03\x00\x00",
+        outcome: Some(Outcome::Cut(5)),
+        ..CUT
+    },
+    Case {
+        bytes: b"RB\x02\x00\x00\x00\x00\x00\x00\x00\x05ab",
+        outcome: Some(Outcome::Cut(13)),
+        ..CUT
+    },
+    Case {
+        bytes: b"RB\x02\xff\xff\xff\xff\xff\xff\xff\xff",
+        outcome: Some(Outcome::Cut(11)),
+        ..CUT
+    },
+    // A fault of an end is one of the link: the second read, of the payload; the first write; and the second.
+    Case {
+        reads: &[2],
+        left: RECEIVED_END,
+        ..FAILED
+    },
+    Case {
+        writes: &[1],
+        written: 0,
+        ..FAILED
+    },
+    Case {
+        writes: &[2],
+        written: 20,
+        ..FAILED
+    },
+];
 
 #[test]
-fn a_fault_of_an_end_is_one_of_the_link(rt: HostRuntime) -> Result<(), Fail> {
-    // The second read, of the payload; the first write; and the second.
-    expect_exchanges(
-        rt.alloc(),
-        &[
-            failed(
-                &[2],
-                &[],
-                42,
-                b"\x01\x00\x00\x00\x01\x31\x01\x00\x00\x00\x00\x00\x00\x00\x07\x00R",
-            ),
-            failed(&[], &[1], 0, RECEIVED),
-            failed(&[], &[2], 20, RECEIVED),
-        ],
-    )
+fn exchanges_over_frames_go_as_the_cases_say(rt: HostRuntime) -> Told {
+    let mut told = Ok(());
+    for case in CASES {
+        told = told.and(case_told(rt.alloc(), case));
+    }
+    told
 }

@@ -1,104 +1,90 @@
 // Payloads with their answers.
 
-ghost use Rattle.std.specs.Prelude.{OnOk};
 ghost use Rattle.rb_session.specs.Answering.{IsTypedHost};
 
-use crate::expected::{expect, expect_bytes};
-use crate::hosts::{CALL, FILES, FILES_TABLE, NUMBER, NUMBER_TABLE, SHORT_CALL, host_of, lines_of};
+use crate::expected::{NO_MEMORY, Told};
+use crate::hosts::{
+    CALL, CALL_REPLY, FILES, FILES_TABLE, LONGEST_REQUEST, NUMBER, NUMBER_TABLE, SHORT_CALL,
+    SHORT_CALL_REPLY, host_of, lines_told,
+};
 use bytes::BytesMut;
 use rb_exec::Host;
 use rb_session::answer;
 use std::alloc::Global;
-use std::test::Fail;
 
-/// Fails where a payload has another reply than one of this kind with these bytes, or the table has other lines then.
-fn expect_reply(
-    alloc: Global,
-    host: &mut Host,
-    row: &(&[u8], u8, &[u8]),
-    table: &[u8],
-) -> Result<(), Fail>
+/// A payload, with the kind and the payload of its reply.
+type Row<'a> = (&'a [u8], u8, &'a [u8]);
+
+/// Says what goes otherwise in the reply to a payload, and in the lines of the host's table then.
+fn reply_told(alloc: Global, host: &mut Host, row: &Row<'_>, table: &[u8]) -> Told
     requires { IsTypedHost host.old }
-    ensures { OnOk result (IsTypedHost host.new) }
 {
     let (payload, kind, want) = row;
-    if payload.len() > 16_777_216 {
-        return Err(Fail::new("the payload is too long"));
+    if payload.len() > LONGEST_REQUEST {
+        return Err("the payload is too long");
     }
     let mut reply = BytesMut::new(alloc);
-    let found = answer(alloc, host, payload, &mut reply)?;
-    expect(found == *kind, "a reply of another kind")?;
-    expect_bytes(reply.as_slice(), want)?;
-    expect_bytes(lines_of(alloc, host)?.as_slice(), table)
-}
-
-/// Fails at the first such payload on the host of a text.
-fn expect_replies(
-    alloc: Global,
-    (source, table): (&[u8], &[u8]),
-    rows: &[(&[u8], u8, &[u8])],
-) -> Result<(), Fail> {
-    let mut host = host_of(alloc, source)?;
-    for row in rows {
-        expect_reply(alloc, &mut host, row, table)?;
+    match answer(alloc, host, payload, &mut reply) {
+        Ok(found) if found == *kind && reply.as_slice() == *want => {
+            lines_told(alloc, host.table(), table)
+        }
+        Ok(_) => Err("another reply"),
+        Err(_) => Err(NO_MEMORY),
     }
-    Ok(())
 }
 
-#[test]
-fn a_kept_call_gives_its_value(rt: HostRuntime) -> Result<(), Fail> {
-    expect_replies(
-        rt.alloc(),
-        (NUMBER, NUMBER_TABLE),
-        &[
-            (
-                CALL,
-                2,
-                b"\x01\x00\x00\x00\x01\x31\x01\x00\x00\x00\x00\x00\x00\x00\x07\x00",
-            ),
-            (SHORT_CALL, 2, b"\x02\x00\x00\x00\x01\x31\x01\x0e\x00"),
-        ],
-    )
+/// The same on the host of a text.
+fn row_told(alloc: Global, source: &[u8], row: &Row<'_>, table: &[u8]) -> Told {
+    match host_of(alloc, source) {
+        Ok(mut host) => reply_told(alloc, &mut host, row, table),
+        Err(why) => Err(why),
+    }
 }
 
-#[test]
-fn hostile_payloads_leave_the_table(rt: HostRuntime) -> Result<(), Fail> {
-    expect_replies(
-        rt.alloc(),
-        (FILES, FILES_TABLE),
-        &[
-            // A variable that nothing binds, in the first step.
-            (
-                b"\x01\x00\x00\x00\x00\x01\x10\x00\x00\x00\x00\x00\x00\x00\x00\x22\x00\x00\x00\x05",
-                3,
-                b"\x01\x0b\x00\x00\x00\x00",
-            ),
-            // The same behind a step that would have a file grow.
-            (
-                b"\x01\x00\x00\x00\x00\x02\x10\x00\x00\x00\x00\x00\x00\x00\x00\x26\x00\x00\x00\x00\x00\x00\x00\x00\x04grow\x26\x00\x00\x00\x00\x04\x00\x00\x00\x04file\x23\x00\x00\x00\x01\x20\x01\x00\x00\x00\x00\x00\x00\x00\x00\x00\x00\x00\x01\x20\x01\x00\x00\x00\x00\x00\x00\x00\x05\x10\x00\x00\x00\x01\x00\x00\x00\x00\x22\x00\x00\x00\x05",
-                3,
-                b"\x01\x0b\x00\x00\x00\x01",
-            ),
-            // A byte behind the message.
-            (
-                b"\x01\x00\x00\x00\x00\x00\x00",
-                3,
-                b"\x01\x06\x00\x00\x00\x06",
-            ),
-            // No version.
-            (b"\x07", 3, b"\x01\x02\x00\x00\x00\x00"),
-            // A valid script that faults: `!` of a number.
-            (
-                b"\x01\x00\x00\x00\x00\x01\x11\x00\x00\x00\x00\x00\x00\x00\x09\x24\x01\x00\x00\x00\x09\x20\x01\x00\x00\x00\x00\x00\x00\x00\x07",
-                2,
-                b"\x01\x00\x00\x00\x00\x01\x00\x00\x00\x00\x00\x00\x00\x09\x0c",
-            ),
-        ],
-    )
-}
+/// The text of a service, the lines of its table, and payloads, each of which leaves it as it is.
+type Table = (&'static [u8], &'static [u8], &'static [Row<'static>]);
 
-/// Payloads of version 2 with the kinds and the payloads of their replies, none of which changes the files.
-const SHORT_ROWS: &[(&[u8], u8, &[u8])] = &[
+const TABLES: &[Table] = &[
+    (NUMBER, NUMBER_TABLE, NUMBER_ROWS),
+    (FILES, FILES_TABLE, HOSTILE_ROWS),
+    (FILES, FILES_TABLE, SHORT_ROWS),
+];
+
+/// A kept call gives its value.
+const NUMBER_ROWS: &[Row<'_>] = &[(CALL, 2, CALL_REPLY), (SHORT_CALL, 2, SHORT_CALL_REPLY)];
+
+/// Payloads that are refused, and a script that faults.
+const HOSTILE_ROWS: &[Row<'_>] = &[
+    // A variable that nothing binds, in the first step.
+    (
+        b"\x01\x00\x00\x00\x00\x01\x10\x00\x00\x00\x00\x00\x00\x00\x00\x22\x00\x00\x00\x05",
+        3,
+        b"\x01\x0b\x00\x00\x00\x00",
+    ),
+    // The same behind a step that would have a file grow.
+    (
+        b"\x01\x00\x00\x00\x00\x02\x10\x00\x00\x00\x00\x00\x00\x00\x00\x26\x00\x00\x00\x00\x00\x00\x00\x00\x04grow\x26\x00\x00\x00\x00\x04\x00\x00\x00\x04file\x23\x00\x00\x00\x01\x20\x01\x00\x00\x00\x00\x00\x00\x00\x00\x00\x00\x00\x01\x20\x01\x00\x00\x00\x00\x00\x00\x00\x05\x10\x00\x00\x00\x01\x00\x00\x00\x00\x22\x00\x00\x00\x05",
+        3,
+        b"\x01\x0b\x00\x00\x00\x01",
+    ),
+    // A byte behind the message.
+    (
+        b"\x01\x00\x00\x00\x00\x00\x00",
+        3,
+        b"\x01\x06\x00\x00\x00\x06",
+    ),
+    // No version.
+    (b"\x07", 3, b"\x01\x02\x00\x00\x00\x00"),
+    // A valid script that faults: `!` of a number.
+    (
+        b"\x01\x00\x00\x00\x00\x01\x11\x00\x00\x00\x00\x00\x00\x00\x09\x24\x01\x00\x00\x00\x09\x20\x01\x00\x00\x00\x00\x00\x00\x00\x07",
+        2,
+        b"\x01\x00\x00\x00\x00\x01\x00\x00\x00\x00\x00\x00\x00\x09\x0c",
+    ),
+];
+
+/// Payloads of version 2, which are answered in version 2.
+const SHORT_ROWS: &[Row<'_>] = &[
     // The empty script.
     (b"\x02\x00\x00\x00", 2, b"\x02\x00\x00\x00\x00\x00"),
     // A needless group of a count, and a text that nothing uses.
@@ -153,6 +139,12 @@ const SHORT_ROWS: &[(&[u8], u8, &[u8])] = &[
 ];
 
 #[test]
-fn version_2_is_answered_in_version_2(rt: HostRuntime) -> Result<(), Fail> {
-    expect_replies(rt.alloc(), (FILES, FILES_TABLE), SHORT_ROWS)
+fn payloads_have_their_answers(rt: HostRuntime) -> Told {
+    let mut told = Ok(());
+    for (source, table, rows) in TABLES {
+        for row in *rows {
+            told = told.and(row_told(rt.alloc(), source, row, table));
+        }
+    }
+    told
 }

@@ -2,21 +2,19 @@
 
 ghost use Rattle.rb_session.specs.Answering.{IsTypedHost};
 
-use crate::expected::{expect, expect_bytes};
+use crate::ends::{Ends, ends_of, is_joined};
+use crate::expected::{NO_MEMORY, Told, told};
 use crate::hosts::{FILES, host_of};
 use crate::session::streams::{
-    EMPTY, EMPTY_REPLY, OTHER, OTHER_REPLY, SHORT, SHORT_REPLY, is_joined, joined,
+    EMPTY, EMPTY_REPLY, FRONT, OTHER, OTHER_REPLY, SHORT, SHORT_REPLY,
 };
 use rb_base::{MemorySink, MemorySource};
 use rb_exec::Host;
-use rb_session::{ServeStop, Served, serve};
-use rb_trees::{Memory, Seq};
-use std::alloc::{AllocError, Global};
-use std::test::Fail;
+use rb_session::{ServeCause, ServeStop, Served, serve};
+use std::alloc::Global;
 
 /// A session over a source of these streams, of which these reads fail, and a sink of which these writes fail; and what is
 /// wanted of it: how it ends, and what is written.
-#[derive(Clone, Copy)]
 struct Case<'a> {
     streams: &'a [&'a [u8]],
     reads: &'a [u64],
@@ -25,132 +23,157 @@ struct Case<'a> {
     written: &'a [&'a [u8]],
 }
 
-/// The source of a case. Each read gives five bytes at most.
-fn source_of(alloc: Global, case: &Case<'_>) -> Result<MemorySource, Memory> {
-    let reads = Seq::from_slice(alloc, case.reads)?;
-    Ok(MemorySource::make(joined(alloc, case.streams)?, reads, 5))
-}
-
-/// The sink of a case. Each write takes seven bytes at most.
-fn sink_of(alloc: Global, case: &Case<'_>) -> Result<MemorySink, Memory> {
-    Ok(MemorySink::make(alloc, Seq::from_slice(alloc, case.writes)?, 7))
-}
-
-/// How a session ended, in words.
-fn told(alloc: Global, answer: &Result<Served, ServeStop>) -> Result<String, AllocError> {
-    match answer {
+/// Says what goes otherwise in how a session ended.
+fn end_told(alloc: Global, answer: &Result<Served, ServeStop>, want: &str) -> Told {
+    let text = match answer {
         Ok(served) => format!(in alloc; "{} requests", served.requests),
+        Err(ServeStop { requests: _, cause: ServeCause::Memory }) => return Err(NO_MEMORY),
         Err(stop) => format!(in alloc; "{stop}"),
+    };
+    match text {
+        Ok(text) => told(text.as_bytes() == want.as_bytes(), "another end"),
+        Err(_) => Err(NO_MEMORY),
     }
 }
 
-/// Fails where a case's session on a host goes otherwise.
-fn expect_served_by(alloc: Global, host: &mut Host, case: &Case<'_>) -> Result<(), Fail>
+/// Says what goes otherwise where a session is served on a host.
+fn served_told(
+    alloc: Global,
+    host: &mut Host,
+    source: &mut MemorySource,
+    sink: &mut MemorySink,
+    case: &Case<'_>,
+) -> Told
     requires { IsTypedHost host.old }
 {
-    let mut source = source_of(alloc, case)?;
-    let mut sink = sink_of(alloc, case)?;
-    let answer = serve(alloc, host, &mut source, &mut sink);
-    expect_bytes(told(alloc, &answer)?.as_bytes(), case.answer.as_bytes())?;
-    expect(
-        is_joined(sink.written(), case.written),
-        "other bytes are written",
-    )
+    let answer = serve(alloc, host, source, sink);
+    let is_written = is_joined(sink.written(), case.written);
+    end_told(alloc, &answer, case.answer).and(told(is_written, "other bytes are written"))
 }
 
-/// Fails at the first session that goes otherwise.
-fn expect_served(alloc: Global, cases: &[Case<'_>]) -> Result<(), Fail> {
-    for case in cases {
-        expect_served_by(alloc, &mut host_of(alloc, FILES)?, case)?;
+/// The same on a host of its own.
+fn hosted_told(
+    alloc: Global,
+    source: &mut MemorySource,
+    sink: &mut MemorySink,
+    case: &Case<'_>,
+) -> Told {
+    match host_of(alloc, FILES) {
+        Ok(mut host) => served_told(alloc, &mut host, source, sink, case),
+        Err(why) => Err(why),
     }
-    Ok(())
 }
 
-/// A session of these streams of which no call fails.
-fn whole<'a>(streams: &'a [&'a [u8]], answer: &'a str, written: &'a [&'a [u8]]) -> Case<'a> {
+/// Says what goes otherwise in a case. Each read gives five bytes at most, and each write takes seven.
+fn case_told(alloc: Global, case: &Case<'_>) -> Told {
+    let ends = Ends {
+        streams: case.streams,
+        most_read: 5,
+        most_written: 7,
+        reads: case.reads,
+        writes: case.writes,
+    };
+    match ends_of(alloc, &ends) {
+        Ok((mut source, mut sink)) => hosted_told(alloc, &mut source, &mut sink, case),
+        Err(_) => Err(NO_MEMORY),
+    }
+}
+
+const CASES: &[Case<'_>] = &[
     Case {
-        streams,
+        streams: &[EMPTY, SHORT, EMPTY],
         reads: &[],
         writes: &[],
-        answer,
-        written,
-    }
-}
-
-#[test]
-fn a_session_ends_with_its_source_or_at_a_broken_frame(rt: HostRuntime) -> Result<(), Fail> {
-    expect_served(
-        rt.alloc(),
-        &[
-            whole(
-                &[EMPTY, SHORT, EMPTY],
-                "3 requests",
-                &[EMPTY_REPLY, SHORT_REPLY, EMPTY_REPLY],
-            ),
-            whole(
-                &[OTHER, EMPTY, OTHER],
-                "3 requests",
-                &[OTHER_REPLY, EMPTY_REPLY, OTHER_REPLY],
-            ),
-            whole(&[], "0 requests", &[]),
-            whole(
-                &[EMPTY, b"RB\x01\x00\x00"],
-                "after 1 requests: the stream ends within a frame, after 22 bytes",
-                &[EMPTY_REPLY],
-            ),
-            whole(
-                &[EMPTY, b"RB\x02", EMPTY],
-                "after 1 requests: the stream breaks its form at offset 19",
-                &[EMPTY_REPLY],
-            ),
-        ],
-    )
-}
-
-/// A session of two requests, of which these reads and writes fail.
-fn failing<'a>(
-    reads: &'a [u64],
-    writes: &'a [u64],
-    answer: &'a str,
-    written: &'a [&'a [u8]],
-) -> Case<'a> {
+        answer: "3 requests",
+        written: &[EMPTY_REPLY, SHORT_REPLY, EMPTY_REPLY],
+    },
+    Case {
+        streams: &[OTHER, EMPTY, OTHER],
+        reads: &[],
+        writes: &[],
+        answer: "3 requests",
+        written: &[OTHER_REPLY, EMPTY_REPLY, OTHER_REPLY],
+    },
+    Case {
+        streams: &[],
+        reads: &[],
+        writes: &[],
+        answer: "0 requests",
+        written: &[],
+    },
+    // The source ends within a frame, or breaks its form.
+    Case {
+        streams: &[EMPTY, b"RB\x01\x00\x00"],
+        reads: &[],
+        writes: &[],
+        answer: "after 1 requests: the stream ends within a frame, after 22 bytes",
+        written: &[EMPTY_REPLY],
+    },
+    Case {
+        streams: &[EMPTY, b"RB\x02", EMPTY],
+        reads: &[],
+        writes: &[],
+        answer: "after 1 requests: the stream breaks its form at offset 19",
+        written: &[EMPTY_REPLY],
+    },
+    // A read that fails ends a session behind its requests. Five reads give the first one: three its header, and two its payload.
     Case {
         streams: &[EMPTY, EMPTY],
-        reads,
-        writes,
-        answer,
-        written,
+        reads: &[1],
+        writes: &[],
+        answer: "after 0 requests: the requests can't be read",
+        written: &[],
+    },
+    Case {
+        streams: &[EMPTY, EMPTY],
+        reads: &[5],
+        writes: &[],
+        answer: "after 0 requests: the requests can't be read",
+        written: &[],
+    },
+    Case {
+        streams: &[EMPTY, EMPTY],
+        reads: &[6],
+        writes: &[],
+        answer: "after 1 requests: the requests can't be read",
+        written: &[EMPTY_REPLY],
+    },
+    // A write that fails leaves a front of the replies. Three writes take a reply, and two this front of it.
+    Case {
+        streams: &[EMPTY, EMPTY],
+        reads: &[],
+        writes: &[1],
+        answer: "after 1 requests: the replies can't be written",
+        written: &[],
+    },
+    Case {
+        streams: &[EMPTY, EMPTY],
+        reads: &[],
+        writes: &[3],
+        answer: "after 1 requests: the replies can't be written",
+        written: &[FRONT],
+    },
+    Case {
+        streams: &[EMPTY, EMPTY],
+        reads: &[],
+        writes: &[4],
+        answer: "after 2 requests: the replies can't be written",
+        written: &[EMPTY_REPLY],
+    },
+    Case {
+        streams: &[EMPTY, EMPTY],
+        reads: &[],
+        writes: &[6],
+        answer: "after 2 requests: the replies can't be written",
+        written: &[EMPTY_REPLY, FRONT],
+    },
+];
+
+#[test]
+fn sessions_end_and_write_as_the_cases_say(rt: HostRuntime) -> Told {
+    let mut told = Ok(());
+    for case in CASES {
+        told = told.and(case_told(rt.alloc(), case));
     }
-}
-
-#[test]
-fn a_read_that_fails_ends_a_session_behind_its_requests(rt: HostRuntime) -> Result<(), Fail> {
-    const NONE: &str = "after 0 requests: the requests can't be read";
-    const ONE: &str = "after 1 requests: the requests can't be read";
-    // Five reads give the first request: three its header, and two its payload.
-    expect_served(
-        rt.alloc(),
-        &[
-            failing(&[1], &[], NONE, &[]),
-            failing(&[5], &[], NONE, &[]),
-            failing(&[6], &[], ONE, &[EMPTY_REPLY]),
-        ],
-    )
-}
-
-#[test]
-fn a_write_that_fails_leaves_a_front_of_the_replies(rt: HostRuntime) -> Result<(), Fail> {
-    const ONE: &str = "after 1 requests: the replies can't be written";
-    const TWO: &str = "after 2 requests: the replies can't be written";
-    // Three writes take a reply, and two this front of it.
-    const FRONT: &[u8] = b"RB\x02\x00\x00\x00\x00\x00\x00\x00\x06\x01\x00\x00";
-    expect_served(
-        rt.alloc(),
-        &[
-            failing(&[], &[1], ONE, &[]),
-            failing(&[], &[3], ONE, &[FRONT]),
-            failing(&[], &[4], TWO, &[EMPTY_REPLY]),
-            failing(&[], &[6], TWO, &[EMPTY_REPLY, FRONT]),
-        ],
-    )
+    told
 }

@@ -1,19 +1,23 @@
 // Sessions, fed in pieces.
 
-ghost use Rattle.std.specs.Prelude.{◌<◌, OnOk};
+ghost use Rattle.std.specs.Prelude.{◌<◌};
 ghost use Rattle.rb_session.specs.Answering.{IsTypedHost};
+ghost use Rattle.rb_session.specs.Sessions.{UnlessSpentMemory};
 
-use crate::expected::{expect, expect_bytes};
-use crate::hosts::{FILES, FILES_TABLE, host_of, lines_of};
+use crate::ends::{is_joined, joined};
+use crate::expected::{NO_MEMORY, Told, told};
+use crate::hosts::{FILES, FILES_TABLE, host_of, lines_told};
 use crate::session::streams::{
     EMPTY, EMPTY_REPLY, OTHER, OTHER_REPLY, OTHER_SHORT, OTHER_SHORT_REPLY, SHORT, SHORT_REPLY,
-    is_joined, joined,
 };
 use bytes::BytesMut;
 use rb_exec::Host;
 use rb_session::{Session, SessionStop, frame_header};
 use std::alloc::Global;
-use std::test::Fail;
+
+/// Streams, one after the other; the sizes of the pieces in which they come; the offset at which they break their form, if they do;
+/// and the replies.
+type Case<'a> = (&'a [&'a [u8]], &'a [usize], Option<u64>, &'a [&'a [u8]]);
 
 /// Feeds a session a stream in pieces of so many bytes.
 fn feed_all(
@@ -26,7 +30,7 @@ fn feed_all(
 ) -> Result<(), SessionStop>
     requires typed { IsTypedHost host.old }
     requires size { 0 < size }
-    ensures { OnOk result (IsTypedHost host.new) }
+    ensures { UnlessSpentMemory result (IsTypedHost host.new) }
 {
     for piece in stream.chunks(size) {
         session.feed(alloc, host, piece, out)?;
@@ -34,178 +38,145 @@ fn feed_all(
     Ok(())
 }
 
-/// Feeds a new session of a host a stream in pieces of so many bytes, and answers the offset at which the stream breaks its
-/// form, if it does.
-fn broken_at(
+/// Says what goes otherwise where a session is fed a stream. Once it has stopped, a whole request is answered by the same stop.
+fn stop_told(
+    alloc: Global,
+    host: &mut Host,
+    session: &mut Session,
+    stream: &[u8],
+    size: usize,
+    broken_at: Option<u64>,
+    out: &mut BytesMut,
+) -> Told
+    requires { IsTypedHost host.old }
+{
+    match feed_all(alloc, host, session, stream, size.max(1), out) {
+        Ok(()) => told(broken_at.is_none(), "the stream breaks its form nowhere"),
+        Err(SessionStop::BadFrame(at)) => {
+            let again = session.feed(alloc, host, EMPTY, out);
+            let is_same = matches!(again, Err(SessionStop::BadFrame(same)) if same == at);
+            told(broken_at == Some(at) && is_same, "the stream breaks its form elsewhere")
+        }
+        Err(SessionStop::Memory) => Err(NO_MEMORY),
+        Err(SessionStop::SessionSpent) => Err("the session is spent"),
+    }
+}
+
+/// Says what goes otherwise where a new session of a host is fed a stream in pieces of a size. No request of a case changes the
+/// table.
+fn session_told(
     alloc: Global,
     host: &mut Host,
     stream: &[u8],
     size: usize,
-    out: &mut BytesMut,
-) -> Result<Option<u64>, SessionStop>
+    case: &Case<'_>,
+) -> Told
     requires { IsTypedHost host.old }
 {
-    let mut session = Session::make(alloc);
-    match feed_all(alloc, host, &mut session, stream, size.max(1), out) {
-        Ok(()) => Ok(None),
-        Err(SessionStop::BadFrame(at)) => Ok(Some(at)),
-        Err(stop) => Err(stop),
-    }
-}
-
-/// Fails where these streams, in pieces of so many bytes, break their form at another offset or have other replies.
-fn expect_replies(
-    alloc: Global,
-    streams: &[&[u8]],
-    size: usize,
-    at: Option<u64>,
-    replies: &[&[u8]],
-) -> Result<(), Fail> {
     let mut out = BytesMut::new(alloc);
-    let stream = joined(alloc, streams)?;
-    let mut host = host_of(alloc, FILES)?;
-    let found = broken_at(alloc, &mut host, stream.as_slice(), size, &mut out)?;
-    expect(found == at, "the stream breaks its form elsewhere")?;
-    expect(is_joined(out.as_slice(), replies), "other replies")
+    let mut session = Session::make(alloc);
+    let (_, _, broken_at, replies) = case;
+    let stop = stop_told(alloc, host, &mut session, stream, size, *broken_at, &mut out);
+    let is_wanted = is_joined(out.as_slice(), replies);
+    let is_counted = session.requests() == replies.len() as u64;
+    stop.and(told(is_wanted && is_counted, "other replies"))
+        .and(lines_told(alloc, host.table(), FILES_TABLE))
 }
 
-#[test]
-fn two_requests_in_any_pieces_have_two_replies(rt: HostRuntime) -> Result<(), Fail> {
-    let alloc = rt.alloc();
-    for size in [1, 2, 11, 16, 17, 18, 33, 34] {
-        expect_replies(
-            alloc,
-            &[EMPTY, EMPTY],
-            size,
-            None,
-            &[EMPTY_REPLY, EMPTY_REPLY],
-        )?;
+/// Says what goes otherwise in pieces of any of a case's sizes, each on a host of its own.
+fn stream_told(alloc: Global, stream: &[u8], case: &Case<'_>) -> Told {
+    let mut told = Ok(());
+    for size in case.1 {
+        told = told.and(match host_of(alloc, FILES) {
+            Ok(mut host) => session_told(alloc, &mut host, stream, *size, case),
+            Err(why) => Err(why),
+        });
     }
-    Ok(())
+    told
 }
 
-#[test]
-fn each_request_is_answered_in_its_version(rt: HostRuntime) -> Result<(), Fail> {
-    let alloc = rt.alloc();
-    for size in [1, 16, 64] {
-        expect_replies(
-            alloc,
-            &[EMPTY, OTHER, SHORT, OTHER_SHORT, OTHER, EMPTY],
-            size,
-            None,
-            &[
-                EMPTY_REPLY,
-                OTHER_REPLY,
-                SHORT_REPLY,
-                OTHER_SHORT_REPLY,
-                OTHER_REPLY,
-                EMPTY_REPLY,
-            ],
-        )?;
+/// Says what goes otherwise in a case.
+fn case_told(alloc: Global, case: &Case<'_>) -> Told {
+    match joined(alloc, case.0) {
+        Ok(stream) => stream_told(alloc, stream.as_slice(), case),
+        Err(_) => Err(NO_MEMORY),
     }
-    Ok(())
 }
 
-/// Streams, with the offset at which they break their form, if they do: alone, and behind a request.
-const BREAKS: &[(&[u8], Option<u64>, Option<u64>)] = &[
-    (b"B", Some(0), Some(17)),
-    (b"RR", Some(1), Some(18)),
-    (b"RB\x02", Some(2), Some(19)),
+const CASES: &[Case<'_>] = &[
+    // Two requests in any pieces have two replies.
+    (
+        &[EMPTY, EMPTY],
+        &[1, 2, 11, 16, 17, 18, 33, 34],
+        None,
+        &[EMPTY_REPLY, EMPTY_REPLY],
+    ),
+    // Each request is answered in its version.
+    (
+        &[EMPTY, OTHER, SHORT, OTHER_SHORT, OTHER, EMPTY],
+        &[1, 16, 64],
+        None,
+        &[
+            EMPTY_REPLY,
+            OTHER_REPLY,
+            SHORT_REPLY,
+            OTHER_SHORT_REPLY,
+            OTHER_REPLY,
+            EMPTY_REPLY,
+        ],
+    ),
+    // A refused request leaves the table and the session.
+    (&[SHORT], &[16], None, &[SHORT_REPLY]),
+    (&[SHORT, EMPTY], &[16], None, &[SHORT_REPLY, EMPTY_REPLY]),
+    // A stream breaks its form at its first wrong byte, alone and behind a request.
+    (&[b"B"], SIZES, Some(0), &[]),
+    (&[EMPTY, b"B"], SIZES, Some(17), &[EMPTY_REPLY]),
+    (&[b"RR"], SIZES, Some(1), &[]),
+    (&[EMPTY, b"RR"], SIZES, Some(18), &[EMPTY_REPLY]),
+    (&[b"RB\x02"], SIZES, Some(2), &[]),
+    (&[EMPTY, b"RB\x02"], SIZES, Some(19), &[EMPTY_REPLY]),
+    (&[b"RB\x00"], SIZES, Some(2), &[]),
     // Two violations: the one that stands first.
-    (b"BR", Some(0), Some(17)),
-    (b"RB\x03\xff\xff\xff\xff\xff\xff\xff\xff", Some(2), Some(19)),
+    (&[b"BR"], SIZES, Some(0), &[]),
+    (&[EMPTY, b"BR"], SIZES, Some(17), &[EMPTY_REPLY]),
+    (&[OTHER_KIND], SIZES, Some(2), &[]),
+    (&[EMPTY, OTHER_KIND], SIZES, Some(19), &[EMPTY_REPLY]),
     // One byte more than a request may have, and as many as it may.
-    (b"RB\x01\x00\x00\x00\x00\x01\x00\x00\x01", Some(3), Some(20)),
-    (b"RB\x01\x00\x00\x00\x00\x01\x00\x00\x00", None, None),
+    (&[TOO_LONG], SIZES, Some(3), &[]),
+    (&[EMPTY, TOO_LONG], SIZES, Some(20), &[EMPTY_REPLY]),
+    (&[LONGEST], SIZES, None, &[]),
+    (&[EMPTY, LONGEST], SIZES, None, &[EMPTY_REPLY]),
     // A length that isn't whole isn't judged.
-    (b"RB\x01\xff\xff\xff\xff\xff\xff\xff", None, None),
-    (b"RB\x01", None, None),
-    (b"", None, None),
+    (&[UNFINISHED], SIZES, None, &[]),
+    (&[EMPTY, UNFINISHED], SIZES, None, &[EMPTY_REPLY]),
+    (&[b"RB\x01"], SIZES, None, &[]),
+    (&[EMPTY, b"RB\x01"], SIZES, None, &[EMPTY_REPLY]),
+    (&[b""], SIZES, None, &[]),
+    (&[EMPTY, b""], SIZES, None, &[EMPTY_REPLY]),
 ];
 
-/// Fails at the first of those streams that breaks its form elsewhere, in pieces of so many bytes.
-fn expect_breaks(alloc: Global, size: usize) -> Result<(), Fail> {
-    for (stream, alone, behind) in BREAKS {
-        expect_replies(alloc, &[*stream], size, *alone, &[])?;
-        expect_replies(alloc, &[EMPTY, *stream], size, *behind, &[EMPTY_REPLY])?;
-    }
-    Ok(())
-}
+/// Sizes of pieces.
+const SIZES: &[usize] = &[1, 4, 64];
+
+/// A header with a kind that no request has, and the greatest length.
+const OTHER_KIND: &[u8] = b"RB\x03\xff\xff\xff\xff\xff\xff\xff\xff";
+
+/// The header of a request with one byte more than it may have.
+const TOO_LONG: &[u8] = b"RB\x01\x00\x00\x00\x00\x01\x00\x00\x01";
+
+/// The header of the longest request.
+const LONGEST: &[u8] = b"RB\x01\x00\x00\x00\x00\x01\x00\x00\x00";
+
+/// A header without the last byte of the greatest length.
+const UNFINISHED: &[u8] = b"RB\x01\xff\xff\xff\xff\xff\xff\xff";
 
 #[test]
-fn a_stream_breaks_at_its_first_wrong_byte(rt: HostRuntime) -> Result<(), Fail> {
-    let alloc = rt.alloc();
-    for size in [1, 4, 64] {
-        expect_breaks(alloc, size)?;
+fn sessions_reply_and_stop_as_the_cases_say(rt: HostRuntime) -> Told {
+    let mut told = Ok(());
+    for case in CASES {
+        told = told.and(case_told(rt.alloc(), case));
     }
-    Ok(())
-}
-
-/// Feeds a session a whole stream, and fails where what it appends isn't this reply.
-fn expect_reply(
-    alloc: Global,
-    host: &mut Host,
-    session: &mut Session,
-    stream: &[u8],
-    want: &[u8],
-) -> Result<(), Fail>
-    requires { IsTypedHost host.old }
-    ensures { OnOk result (IsTypedHost host.new) }
-{
-    let mut out = BytesMut::new(alloc);
-    session.feed(alloc, host, stream, &mut out)?;
-    expect_bytes(out.as_slice(), want)
-}
-
-/// Has a host refuse one request and answer another, in one session.
-fn refuse_one(alloc: Global, host: &mut Host, session: &mut Session) -> Result<(), Fail>
-    requires { IsTypedHost host.old }
-{
-    expect_reply(alloc, host, session, SHORT, SHORT_REPLY)?;
-    expect_bytes(lines_of(alloc, host)?.as_slice(), FILES_TABLE)?;
-    expect_reply(alloc, host, session, EMPTY, EMPTY_REPLY)?;
-    expect(session.requests() == 2, "another number of requests")
-}
-
-#[test]
-fn a_refused_request_leaves_the_table_and_the_session(rt: HostRuntime) -> Result<(), Fail> {
-    let alloc = rt.alloc();
-    let mut host = host_of(alloc, FILES)?;
-    refuse_one(alloc, &mut host, &mut Session::make(alloc))
-}
-
-/// Feeds a session a piece, and fails where that isn't answered by a frame that breaks its form at offset 2.
-fn expect_stop(
-    alloc: Global,
-    host: &mut Host,
-    session: &mut Session,
-    piece: &[u8],
-    out: &mut BytesMut,
-) -> Result<(), Fail>
-    requires { IsTypedHost host.old }
-    ensures { OnOk result (IsTypedHost host.new) }
-{
-    match session.feed(alloc, host, piece, out) {
-        Err(SessionStop::BadFrame(2)) => Ok(()),
-        _ => Err(Fail::new("another answer")),
-    }
-}
-
-/// Feeds a session a broken frame, and then a request.
-fn stop_twice(alloc: Global, host: &mut Host, session: &mut Session) -> Result<(), Fail>
-    requires { IsTypedHost host.old }
-{
-    let mut out = BytesMut::new(alloc);
-    expect_stop(alloc, host, session, b"RB\x00", &mut out)?;
-    expect_stop(alloc, host, session, EMPTY, &mut out)?;
-    expect_bytes(out.as_slice(), b"")
-}
-
-#[test]
-fn a_session_that_stopped_answers_the_same_stop(rt: HostRuntime) -> Result<(), Fail> {
-    let alloc = rt.alloc();
-    let mut host = host_of(alloc, FILES)?;
-    stop_twice(alloc, &mut host, &mut Session::make(alloc))
+    told
 }
 
 /// Headers, with what they are read as.
@@ -219,12 +190,8 @@ const HEADERS: &[(&[u8; 11], Result<(u8, u64), usize>)] = &[
 ];
 
 #[test]
-fn headers_have_a_kind_and_a_length(_rt: HostRuntime) -> Result<(), Fail> {
+fn headers_have_a_kind_and_a_length(rt: HostRuntime) {
     for (header, want) in HEADERS {
-        expect(
-            frame_header(header) == *want,
-            "another kind, length or place",
-        )?;
+        assert!(rt; frame_header(header) == *want);
     }
-    Ok(())
 }

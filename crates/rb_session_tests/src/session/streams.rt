@@ -1,15 +1,15 @@
 // Streams of requests, and of their replies.
 
-use rb_trees::{Memory, Seq};
-use std::alloc::Global;
-
 /// A request without steps, in its frame.
 pub const EMPTY: &[u8] = b"RB\x01\x00\x00\x00\x00\x00\x00\x00\x06\x01\x00\x00\x00\x00\x00";
 
 /// The reply to it.
 pub const EMPTY_REPLY: &[u8] = b"RB\x02\x00\x00\x00\x00\x00\x00\x00\x06\x01\x00\x00\x00\x00\x00";
 
-/// The same request without its last byte.
+/// The front of that reply that two writes of seven bytes take.
+pub const FRONT: &[u8] = b"RB\x02\x00\x00\x00\x00\x00\x00\x00\x06\x01\x00\x00";
+
+/// The request without its last byte.
 pub const SHORT: &[u8] = b"RB\x01\x00\x00\x00\x00\x00\x00\x00\x05\x01\x00\x00\x00\x00";
 
 /// The reply to it: what is read ends at offset 5.
@@ -26,24 +26,3 @@ pub const OTHER_SHORT: &[u8] = b"RB\x01\x00\x00\x00\x00\x00\x00\x00\x03\x02\x00\
 
 /// The reply to it: what is read ends at offset 3.
 pub const OTHER_SHORT_REPLY: &[u8] = b"RB\x03\x00\x00\x00\x00\x00\x00\x00\x03\x02\x01\x03";
-
-/// The streams in one.
-pub fn joined(alloc: Global, streams: &[&[u8]]) -> Result<Seq<u8>, Memory> {
-    let mut all = Seq::new(alloc);
-    for stream in streams {
-        all.extend_from_slice(stream)?;
-    }
-    Ok(all)
-}
-
-/// Whether bytes are these pieces, one after the other.
-pub fn is_joined(bytes: &[u8], pieces: &[&[u8]]) -> bool {
-    let mut rest = bytes;
-    for piece in pieces {
-        match rest.strip_prefix(*piece) {
-            Some(behind) => rest = behind,
-            None => return false,
-        }
-    }
-    rest.is_empty()
-}
