@@ -9,19 +9,17 @@ use std::alloc::Global;
 /// The names of files, and what they hold.
 const FILES: &[(&str, &[u8])] = &[("p", b"first"), ("s", b"second"), ("p", b"third")];
 
-/// A read of the file of a name, up to a limit, with what stands behind `> ` in the buffer then; or None where it fails.
-type Read<'a> = (&'a str, usize, Option<&'a [u8]>);
+/// A read of the file of a name, up to a limit, with what stands behind `> ` in the buffer then; or nothing where it fails.
+type Read<'a> = (&'a str, usize, &'a [u8]);
 
 /// Says what goes otherwise in a read behind `> `, which takes nothing where it fails.
 fn read_told<F: Files>(files: &mut F, (name, limit, want): &Read<'_>, into: &mut BytesMut) -> Told {
     into.truncate(2);
-    let is_wanted = match (files.read(name, *limit, into), want) {
-        (Ok(()), Some(bytes)) => into.as_slice() == *bytes,
-        (Err(FilesStop::Failed), None) => into.as_slice() == b"> ".as_slice(),
-        (Err(FilesStop::Memory), _) => return Err(NO_MEMORY),
-        _ => false,
-    };
-    told(is_wanted, "other bytes are read")
+    match files.read(name, *limit, into) {
+        Ok(()) => told(into.as_slice() == *want, "other bytes are read"),
+        Err(FilesStop::Failed) => told(want.is_empty() && into.len() == 2, "a read fails"),
+        Err(FilesStop::Memory) => Err(NO_MEMORY),
+    }
 }
 
 /// Says what goes otherwise in reads.
@@ -48,13 +46,13 @@ fn memory_files(alloc: Global) -> Result<MemoryFiles, Memory> {
 
 /// Reads of those files. The fifth is listed, and the sixth has no file.
 const READS: &[Read<'_>] = &[
-    ("p", 3, Some(b"> firs")),
-    ("p", 4, Some(b"> first")),
-    ("s", usize::MAX, Some(b"> second")),
-    ("p", 9, Some(b"> first")),
-    ("p", 9, None),
-    ("P", 9, None),
-    ("p", 9, Some(b"> first")),
+    ("p", 3, b"> firs"),
+    ("p", 4, b"> first"),
+    ("s", usize::MAX, b"> second"),
+    ("p", 9, b"> first"),
+    ("p", 9, b""),
+    ("P", 9, b""),
+    ("p", 9, b"> first"),
 ];
 
 #[test]
@@ -64,7 +62,7 @@ fn a_read_takes_one_byte_more_than_its_limit_unless_it_fails(rt: HostRuntime) {
 }
 
 /// Reads of files that are all alike.
-const SAME_READS: &[Read<'_>] = &[("p", 1, Some(b"> te")), ("s", 4, Some(b"> text"))];
+const SAME_READS: &[Read<'_>] = &[("p", 1, b"> te"), ("s", 4, b"> text")];
 
 #[test]
 fn same_files_have_each_name(rt: HostRuntime) {

@@ -17,14 +17,19 @@ fn coming(alloc: Global, bytes: &[u8]) -> Result<Coming, Memory> {
     })
 }
 
+/// A list of one item.
+fn list_of<T: Drop>(alloc: Global, item: T) -> Result<Seq<T>, Memory> {
+    let mut list = Seq::new(alloc);
+    list.push(item)?;
+    Ok(list)
+}
+
 /// Two sessions under the address `a`.
 fn two_sessions(alloc: Global) -> Result<Seq<(Seq<u8>, Seq<Coming>)>, Memory> {
-    let mut sessions = Seq::new(alloc);
-    sessions.push(coming(alloc, b"one")?)?;
+    let address = Seq::from_slice(alloc, b"a")?;
+    let mut sessions = list_of(alloc, coming(alloc, b"one")?)?;
     sessions.push(coming(alloc, b"two")?)?;
-    let mut addresses = Seq::new(alloc);
-    addresses.push((Seq::from_slice(alloc, b"a")?, sessions))?;
-    Ok(addresses)
+    list_of(alloc, (address, sessions))
 }
 
 /// Reads once from a session, writes the three bytes of its buffer, and says how much was read.
@@ -118,16 +123,10 @@ const STEADY_CALLS: &[Call<'_>] = &[
     (None, "no session"),
 ];
 
-/// One session.
-fn one_session(alloc: Global) -> Result<Seq<Seq<u8>>, Memory> {
-    let mut sessions = Seq::new(alloc);
-    sessions.push(Seq::from_slice(alloc, b"one")?)?;
-    Ok(sessions)
-}
-
 #[test]
 fn a_steady_listener_has_each_address(rt: HostRuntime) {
-    let sessions = one_session(rt.alloc()).expect(&rt, "a session");
+    let bytes = Seq::from_slice(rt.alloc(), b"one").expect(&rt, "bytes");
+    let sessions = list_of(rt.alloc(), bytes).expect(&rt, "a session");
     let mut listen = SteadyListen::make(rt.alloc(), sessions);
     calls_told(&mut listen, STEADY_CALLS).expect(&rt, "a call");
     assert!(rt; listen.returned().len() == 2, "another number of sessions came back");

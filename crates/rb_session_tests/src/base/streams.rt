@@ -18,8 +18,16 @@ fn taken<K: Sink>(sink: &mut K, piece: &[u8], is_whole: bool) -> Option<usize> {
     }
 }
 
-/// Pieces for a sink that takes one byte at once, and whose third write is listed: whether each is written whole, how many of
-/// its bytes are taken, and what is written then.
+/// Whether each of these pieces is written whole or once, has so many bytes taken, and leaves these bytes written.
+fn are_taken(sink: &mut MemorySink, rows: &[(&[u8], bool, Option<usize>, &[u8])]) -> bool {
+    let mut are_taken = true;
+    for (piece, is_whole, count, written) in rows {
+        are_taken &= taken(sink, piece, *is_whole) == *count && sink.written() == *written;
+    }
+    are_taken
+}
+
+/// Pieces for a sink that takes one byte at once, and whose third write is listed.
 const PIECES: &[(&[u8], bool, Option<usize>, &[u8])] = &[
     (b"abc", true, None, b"ab"),
     (b"cd", true, Some(2), b"abcd"),
@@ -30,17 +38,14 @@ const PIECES: &[(&[u8], bool, Option<usize>, &[u8])] = &[
 fn a_piece_is_written_byte_by_byte_up_to_a_fault(rt: HostRuntime) {
     let failing = Seq::from_slice(rt.alloc(), &[3]).expect(&rt, "a list");
     let mut sink = MemorySink::make(rt.alloc(), failing, 1);
-    for (piece, is_whole, count, written) in PIECES {
-        let taken = taken(&mut sink, piece, *is_whole);
-        assert!(rt; taken == *count && sink.written() == *written);
-    }
+    assert!(rt; are_taken(&mut sink, PIECES));
 }
 
 #[test]
 fn a_null_sink_takes_all(rt: HostRuntime) {
-    for is_whole in [true, false] {
-        assert!(rt; taken(&mut NullSink, b"abc", is_whole) == Some(3));
-    }
+    let whole = taken(&mut NullSink, b"abc", true);
+    let once = taken(&mut NullSink, b"abc", false);
+    assert!(rt; whole == Some(3) && once == Some(3));
 }
 
 /// Whether a read into so many dots, up to three, gives these bytes and leaves the dots behind them; or fails, where None are
@@ -114,14 +119,12 @@ fn a_source_gives_pieces_and_then_its_end_unless_a_read_is_listed(rt: HostRuntim
     told
 }
 
-/// What reads into three dots give, one after the other.
-const STEADY_PIECES: &[&[u8]] = &[b"abc", b"d", b""];
-
 #[test]
 fn a_steady_source_fills_its_buffer(rt: HostRuntime) {
     let bytes = Seq::from_slice(rt.alloc(), b"abcd").expect(&rt, "bytes");
-    let mut source = SteadySource::make(bytes);
-    for want in STEADY_PIECES {
-        assert!(rt; reads_so(&mut source, 3, Some(*want)), "another piece");
-    }
+    let source = &mut SteadySource::make(bytes);
+    let are_read = reads_so(source, 3, Some(b"abc"))
+        && reads_so(source, 3, Some(b"d"))
+        && reads_so(source, 3, Some(b""));
+    assert!(rt; are_read);
 }
