@@ -155,13 +155,7 @@ fn wants_of(alloc: Global, number: u32, turn: &Turn, before: usize) -> Result<Se
 }
 
 /// Says so where something else comes out by a turn of a session than is wanted behind so many requests of the history.
-fn turn_told(
-    alloc: Global,
-    hub: &mut Hub<Host>,
-    number: u32,
-    turn: &Turn,
-    before: usize,
-) -> Told {
+fn turn_told(alloc: Global, hub: &mut Hub<Host>, number: u32, turn: &Turn, before: usize) -> Told {
     match wants_of(alloc, number, turn, before) {
         Ok(wants) => {
             let events = &[(come_of(number, turn), turn.step)];

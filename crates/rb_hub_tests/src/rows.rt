@@ -147,12 +147,7 @@ fn events_of(alloc: Global, comes: &[(Come, Step)]) -> Result<VecDeque<Event>, M
 }
 
 /// Says so where something else comes out of events that are played at once.
-fn play_told(
-    alloc: Global,
-    hub: &mut Hub<Host>,
-    events: VecDeque<Event>,
-    wants: &[Want],
-) -> Told {
+fn play_told(alloc: Global, hub: &mut Hub<Host>, events: VecDeque<Event>, wants: &[Want]) -> Told {
     let mut outs = Seq::new(alloc);
     match play(alloc, hub, events, &mut outs) {
         Ok(()) => outs_told(outs.as_slice(), wants),

@@ -23,13 +23,13 @@ pub fn source_of(alloc: Global, ends: &Ends<'_>) -> Result<MemorySource, Memory>
 }
 
 /// The ends.
-pub fn ends_of(
-    alloc: Global,
-    ends: &Ends<'_>,
-) -> Result<(MemorySource, MemorySink), Memory> {
+pub fn ends_of(alloc: Global, ends: &Ends<'_>) -> Result<(MemorySource, MemorySink), Memory> {
     let source = source_of(alloc, ends)?;
     let writes = Seq::from_slice(alloc, ends.writes)?;
-    Ok((source, MemorySink::make(alloc, writes, ends.most_written.max(1))))
+    Ok((
+        source,
+        MemorySink::make(alloc, writes, ends.most_written.max(1)),
+    ))
 }
 
 /// The streams in one.

@@ -129,5 +129,8 @@ fn a_steady_listener_has_each_address(rt: HostRuntime) {
     let sessions = list_of(rt.alloc(), bytes).expect(&rt, "a session");
     let mut listen = SteadyListen::make(rt.alloc(), sessions);
     calls_told(&mut listen, STEADY_CALLS).expect(&rt, "a call");
-    assert!(rt; listen.returned().len() == 2, "another number of sessions came back");
+    assert!(rt;
+        listen.returned().len() == 2,
+        "another number of sessions came back"
+    );
 }

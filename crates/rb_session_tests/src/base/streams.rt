@@ -64,7 +64,11 @@ fn reads_so<S: Source>(source: &mut S, size: usize, want: Option<&[u8]>) -> bool
 
 /// A source of these bytes, of which these reads fail and the others give two bytes at most; and reads, with what they give and
 /// what is left then.
-type Case<'a> = (&'a [u8], &'a [u64], &'a [(usize, Option<&'a [u8]>, &'a [u8])]);
+type Case<'a> = (
+    &'a [u8],
+    &'a [u64],
+    &'a [(usize, Option<&'a [u8]>, &'a [u8])],
+);
 
 const CASES: &[Case<'_>] = &[
     // Up to the end.
@@ -79,11 +83,7 @@ const CASES: &[Case<'_>] = &[
         ],
     ),
     // A read that is listed, and the next one.
-    (
-        b"abc",
-        &[1],
-        &[(3, None, b"abc"), (1, Some(b"a"), b"bc")],
-    ),
+    (b"abc", &[1], &[(3, None, b"abc"), (1, Some(b"a"), b"bc")]),
 ];
 
 /// Whether reads of a source give these bytes, and leave these.

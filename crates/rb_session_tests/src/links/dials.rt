@@ -176,8 +176,7 @@ fn has_come_back(dial: &MemoryDial<FailingLink>, case: &Case<'_>) -> bool {
                 && has_kept(link.pairs(), case.pairs, link.first_table(), link.table())
         }
         [AnyLink::Around(link)] => {
-            !case.is_dialled
-                && has_kept(link.pairs(), case.pairs, link.first_table(), link.table())
+            !case.is_dialled && has_kept(link.pairs(), case.pairs, link.first_table(), link.table())
         }
         _ => false,
     }
@@ -216,6 +215,7 @@ const LOST: Exchanged<'_> = (CALL, Outcome::Failed, b"");
 
 /// An address, and a name.
 const A: Origin<'_> = Origin::Address(b"a");
+
 const B: Origin<'_> = Origin::Address(b"b");
 
 const CASES: &[Case<'_>] = &[

@@ -17,8 +17,7 @@ const RECEIVED: &[u8] =
     b"RB\x02\x00\x00\x00\x00\x00\x00\x00\x10\x01\x00\x00\x00\x01\x31\x01\x00\x00\x00\x00\x00\x00\x00\x07\x00R";
 
 /// What is left of that behind its header.
-const RECEIVED_END: &[u8] =
-    b"\x01\x00\x00\x00\x01\x31\x01\x00\x00\x00\x00\x00\x00\x00\x07\x00R";
+const RECEIVED_END: &[u8] = b"\x01\x00\x00\x00\x01\x31\x01\x00\x00\x00\x00\x00\x00\x00\x07\x00R";
 
 /// A link whose source has these bytes, and whose ends move so many at once, of which these reads and these writes fail; and what is
 /// wanted of an exchange of the call over it.
@@ -57,7 +56,10 @@ fn link_told(link: &mut FrameLink<MemorySource, MemorySink>, case: &Case<'_>) ->
         None => Ok(()),
     };
     let stand = ends_stand(link.source(), link.sink(), case) && link.table().is_none();
-    exchanged.and(told(stand, "other bytes are written or left, or there is a table"))
+    exchanged.and(told(
+        stand,
+        "other bytes are written or left, or there is a table",
+    ))
 }
 
 /// Says what goes otherwise in a case, and in the ends that come back.

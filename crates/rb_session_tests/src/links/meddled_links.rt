@@ -30,26 +30,34 @@ const REFUSED: Exchanged<'_> = (b"\x07", Outcome::Reply(3), b"\x01\x02\x00\x00\x
 
 /// A value that a field is to get.
 #[derive(Clone, Copy)]
-enum Given {
+enum Given<'a> {
     Int(i64),
     Bool(bool),
-    Text([u8; 2]),
+    Text(&'a str),
 }
 
 /// A change: the number of an object, a field, and its value.
-type Row<'a> = (u32, &'a [u8], Given);
+type Row<'a> = (u32, &'a [u8], Given<'a>);
+
+/// A text as a value. A longer one has no room in a value.
+fn text_value(alloc: Global, text: &str) -> Result<Value, Memory>
+    ensures { IfOk result (λ value. IsBounded (out-Value value)) }
+{
+    if text.len() > 4096 {
+        return Err(Memory);
+    }
+    let bytes = Seq::from_slice(alloc, text.as_bytes())?;
+    Ok(Value::Text(Shared::new(alloc, bytes)?))
+}
 
 /// The value that a field is to get.
-fn value_of(alloc: Global, given: Given) -> Result<Value, Memory>
+fn value_of(alloc: Global, given: Given<'_>) -> Result<Value, Memory>
     ensures { IfOk result (λ value. IsBounded (out-Value value)) }
 {
     match given {
         Given::Int(number) => Ok(Value::Int(number)),
         Given::Bool(truth) => Ok(Value::Bool(truth)),
-        Given::Text(text) => {
-            let bytes = Seq::from_slice(alloc, &text)?;
-            Ok(Value::Text(Shared::new(alloc, bytes)?))
-        }
+        Given::Text(text) => text_value(alloc, text),
     }
 }
 
@@ -131,7 +139,7 @@ const CASES: &[Case<'_>] = &[
         &[
             &[(0, b"size", Given::Int(20))],
             &[
-                (0, b"name", Given::Text(*b"bb")),
+                (0, b"name", Given::Text("bb")),
                 (0, b"open", Given::Bool(true)),
             ],
             &[],
@@ -170,7 +178,7 @@ const CASES: &[Case<'_>] = &[
     // A change that doesn't suit the table is skipped.
     (
         &[&[
-            (0, b"size", Given::Text(*b"20")),
+            (0, b"size", Given::Text("20")),
             (0, b"size", Given::Bool(true)),
             (0, b"name", Given::Int(20)),
             (0, b"list", Given::Int(20)),

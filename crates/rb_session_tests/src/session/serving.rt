@@ -5,9 +5,7 @@ ghost use Rattle.rb_session.specs.Answering.{IsTypedHost};
 use crate::ends::{Ends, ends_of, is_joined};
 use crate::expected::{NO_MEMORY, Told, told};
 use crate::hosts::{FILES, host_of};
-use crate::session::streams::{
-    EMPTY, EMPTY_REPLY, FRONT, OTHER, OTHER_REPLY, SHORT, SHORT_REPLY,
-};
+use crate::session::streams::{EMPTY, EMPTY_REPLY, FRONT, OTHER, OTHER_REPLY, SHORT, SHORT_REPLY};
 use rb_base::{MemorySink, MemorySource};
 use rb_exec::Host;
 use rb_session::{ServeCause, ServeStop, Served, serve};
@@ -27,7 +25,12 @@ struct Case<'a> {
 fn end_told(alloc: Global, answer: &Result<Served, ServeStop>, want: &str) -> Told {
     let text = match answer {
         Ok(served) => format!(in alloc; "{} requests", served.requests),
-        Err(ServeStop { requests: _, cause: ServeCause::Memory }) => return Err(NO_MEMORY),
+        Err(
+            ServeStop {
+                requests: _,
+                cause: ServeCause::Memory,
+            },
+        ) => return Err(NO_MEMORY),
         Err(stop) => format!(in alloc; "{stop}"),
     };
     match text {

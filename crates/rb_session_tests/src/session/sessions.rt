@@ -55,7 +55,10 @@ fn stop_told(
         Err(SessionStop::BadFrame(at)) => {
             let again = session.feed(alloc, host, EMPTY, out);
             let is_same = matches!(again, Err(SessionStop::BadFrame(same)) if same == at);
-            told(broken_at == Some(at) && is_same, "the stream breaks its form elsewhere")
+            told(
+                broken_at == Some(at) && is_same,
+                "the stream breaks its form elsewhere",
+            )
         }
         Err(SessionStop::Memory) => Err(NO_MEMORY),
         Err(SessionStop::SessionSpent) => Err("the session is spent"),
@@ -64,19 +67,21 @@ fn stop_told(
 
 /// Says what goes otherwise where a new session of a host is fed a stream in pieces of a size. No request of a case changes the
 /// table.
-fn session_told(
-    alloc: Global,
-    host: &mut Host,
-    stream: &[u8],
-    size: usize,
-    case: &Case<'_>,
-) -> Told
+fn session_told(alloc: Global, host: &mut Host, stream: &[u8], size: usize, case: &Case<'_>) -> Told
     requires { IsTypedHost host.old }
 {
     let mut out = BytesMut::new(alloc);
     let mut session = Session::make(alloc);
     let (_, _, broken_at, replies) = case;
-    let stop = stop_told(alloc, host, &mut session, stream, size, *broken_at, &mut out);
+    let stop = stop_told(
+        alloc,
+        host,
+        &mut session,
+        stream,
+        size,
+        *broken_at,
+        &mut out,
+    );
     let is_wanted = is_joined(out.as_slice(), replies);
     let is_counted = session.requests() == replies.len() as u64;
     stop.and(told(is_wanted && is_counted, "other replies"))
