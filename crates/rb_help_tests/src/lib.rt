@@ -2,15 +2,7 @@
 #![tactic(auto)]
 
 #[cfg(test)]
-mod colours;
-#[cfg(test)]
-mod events;
-#[cfg(test)]
 mod faults;
-#[cfg(test)]
-mod known;
-#[cfg(test)]
-mod links;
 #[cfg(test)]
 mod mistakes_in_batches;
 #[cfg(test)]
@@ -28,26 +20,24 @@ mod mistakes_in_types;
 #[cfg(test)]
 mod mistakes_in_words;
 #[cfg(test)]
-mod names;
-#[cfg(test)]
 mod operands;
 #[cfg(test)]
 mod outside;
+#[cfg(test)]
+mod programs;
 #[cfg(test)]
 mod quotes;
 #[cfg(test)]
 mod readings;
 #[cfg(test)]
-mod refusals;
+mod rows;
 #[cfg(test)]
-mod replies;
+mod tests;
 #[cfg(test)]
-mod said;
+mod text;
 #[cfg(test)]
-mod statements;
+mod troubles;
 #[cfg(test)]
-mod taught;
-#[cfg(test)]
-mod types;
+mod typing;
 #[cfg(test)]
 mod wanted;

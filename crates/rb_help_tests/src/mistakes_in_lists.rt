@@ -1,109 +1,123 @@
 // Loops over lists that don't go along, and how each is mended.
 
-use crate::taught::{Kind, Taught, all_taught};
-use std::test::Fail;
-
-/// Loops over lists that can stand before the batch.
-const KNOWN_BEFORE: [Taught; 6] = [
-    (
-        "main {
+/// Texts with a mistake, what is said of each, and each mended as that says.
+pub static ROWS: &str = r#"a program behind interfaces
+----
+main {
   batch (D d) {
     for (x in List<Int>(1, 2)) { d.burn(x); }
   }
-}",
-        "Local code goes over this list, and it runs only when the batch has come back.
-Put `List<Int>(1, 2)` into a `val` before the batch, and go over that.",
-        "main {
+}
+----
+Local code goes over this list, and it runs only when the batch has come back.
+Put `List<Int>(1, 2)` into a `val` before the batch, and go over that.
+----
+main {
   val numbers = List<Int>(1, 2);
   batch (D d) {
     for (x in numbers) { d.burn(x); }
   }
-}",
-    ),
-    (
-        "main {
+}
+====
+a program behind interfaces
+----
+main {
   batch (D d) {
     val by = List<Int>(1, 2);
     for (n in by) { d.burn(n); }
   }
-}",
-        "Local code goes over this list, and it runs only when the batch has come back.
-Move the declaration of `by` in line 3 before the batch.",
-        "main {
+}
+----
+Local code goes over this list, and it runs only when the batch has come back.
+Move the declaration of `by` in line 3 before the batch.
+----
+main {
   val by = List<Int>(1, 2);
   batch (D d) {
     for (n in by) { d.burn(n); }
   }
-}",
-    ),
-    (
-        "main {
+}
+====
+a program behind interfaces
+----
+main {
   val more = List<Int>(3);
   batch (D d) {
     var by = List<Int>(1, 2);
     by = by + more;
     for (n in by) { d.burn(n); }
   }
-}",
-        "Local code goes over this list, and it runs only when the batch has come back.
-Move the declaration of `by` in line 4 and all that assigns it before the batch.",
-        "main {
+}
+----
+Local code goes over this list, and it runs only when the batch has come back.
+Move the declaration of `by` in line 4 and all that assigns it before the batch.
+----
+main {
   val more = List<Int>(3);
   var by = List<Int>(1, 2);
   by = by + more;
   batch (D d) {
     for (n in by) { d.burn(n); }
   }
-}",
-    ),
-    (
-        "main {
+}
+====
+a program behind interfaces
+----
+main {
   var by = List<Int>(1);
   batch (D d) {
     by = by + by;
     for (n in by) { d.burn(n); }
   }
-}",
-        "Local code goes over this list, and it runs only when the batch has come back.
-Move the assignment of `by` in line 4 before the batch.",
-        "main {
+}
+----
+Local code goes over this list, and it runs only when the batch has come back.
+Move the assignment of `by` in line 4 before the batch.
+----
+main {
   var by = List<Int>(1);
   by = by + by;
   batch (D d) {
     for (n in by) { d.burn(n); }
   }
-}",
-    ),
-    (
-        "main {
+}
+====
+a program behind interfaces
+----
+main {
   var by = List<Int>(1);
   batch (D d) {
     for (n in by) { d.burn(n); }
     by = List<Int>();
   }
-}",
-        "Local code goes over this list, and it runs only when the batch has come back.
-Copy `by` into a `val` before the batch, and go over that.",
-        "main {
+}
+----
+Local code goes over this list, and it runs only when the batch has come back.
+Copy `by` into a `val` before the batch, and go over that.
+----
+main {
   var by = List<Int>(1);
   val first = by;
   batch (D d) {
     for (n in first) { d.burn(n); }
     by = List<Int>();
   }
-}",
-    ),
-    (
-        "class P { n: Int; }
+}
+====
+a program behind interfaces
+----
+class P { n: Int; }
 main {
   val ps = List<P>(new P(1), new P(2));
   batch (D d) {
     for (p in ps) { d.burn(p.n); }
   }
-}",
-        "Local code goes over this list, and it runs only when the batch has come back.
-A batch takes a List of Int, Bool or Text along: before the batch, put what the call needs of each item into one.",
-        "class P { n: Int; }
+}
+----
+Local code goes over this list, and it runs only when the batch has come back.
+A batch takes a List of Int, Bool or Text along: before the batch, put what the call needs of each item into one.
+----
+class P { n: Int; }
 main {
   val ps = List<P>(new P(1), new P(2));
   var ns = List<Int>();
@@ -111,23 +125,22 @@ main {
   batch (D d) {
     for (n in ns) { d.burn(n); }
   }
-}",
-    ),
-];
-
-/// Loops over lists that the batch's results make.
-const MADE_BY_RESULTS: [Taught; 4] = [
-    (
-        "main {
+}
+====
+a program behind interfaces
+----
+main {
   var sizes = List<Int>();
   batch (D d) {
     for (f in d.files()) { sizes = sizes + List<Int>(f.size()); }
     for (n in sizes) { d.burn(n); }
   }
-}",
-        "Local code goes over this list, and it runs only when the batch has come back.
-End the batch before `for (n in sizes)` in line 5, and begin a second one there.",
-        "main {
+}
+----
+Local code goes over this list, and it runs only when the batch has come back.
+End the batch before `for (n in sizes)` in line 5, and begin a second one there.
+----
+main {
   var sizes = List<Int>();
   batch (D d) {
     for (f in d.files()) { sizes = sizes + List<Int>(f.size()); }
@@ -135,19 +148,22 @@ End the batch before `for (n in sizes)` in line 5, and begin a second one there.
   batch (D d) {
     for (n in sizes) { d.burn(n); }
   }
-}",
-    ),
-    (
-        "main {
+}
+====
+a program behind interfaces
+----
+main {
   batch (D d) {
     val sizes = List<Int>(d.file(0).size());
     for (n in sizes) { d.burn(n); }
   }
-}",
-        "Local code goes over this list, and it runs only when the batch has come back.
+}
+----
+Local code goes over this list, and it runs only when the batch has come back.
 Declare `sizes` by `var` before the batch, and assign it in place of its declaration.
-End the batch before `for (n in sizes)` in line 4, and begin a second one there.",
-        "main {
+End the batch before `for (n in sizes)` in line 4, and begin a second one there.
+----
+main {
   var sizes = List<Int>();
   batch (D d) {
     sizes = List<Int>(d.file(0).size());
@@ -155,17 +171,20 @@ End the batch before `for (n in sizes)` in line 4, and begin a second one there.
   batch (D d) {
     for (n in sizes) { d.burn(n); }
   }
-}",
-    ),
-    (
-        "main {
+}
+====
+a program behind interfaces
+----
+main {
   batch (D d) {
     for (n in List<Int>(d.file(0).size())) { d.burn(n); }
   }
-}",
-        "Local code goes over this list, and it runs only when the batch has come back.
-Let a List from before the batch keep the items, and go over it in a second batch.",
-        "main {
+}
+----
+Local code goes over this list, and it runs only when the batch has come back.
+Let a List from before the batch keep the items, and go over it in a second batch.
+----
+main {
   var sizes = List<Int>();
   batch (D d) {
     sizes = List<Int>(d.file(0).size());
@@ -173,20 +192,23 @@ Let a List from before the batch keep the items, and go over it in a second batc
   batch (D d) {
     for (n in sizes) { d.burn(n); }
   }
-}",
-    ),
-    (
-        "main {
+}
+====
+a program behind interfaces
+----
+main {
   batch (D d) {
     for (f in d.files()) {
       val sizes = List<Int>(f.size());
       for (n in sizes) { d.burn(n); }
     }
   }
-}",
-        "Local code goes over this list, and it runs only when the batch has come back.
-Let a List from before the batch keep the items, and go over it in a second batch.",
-        "main {
+}
+----
+Local code goes over this list, and it runs only when the batch has come back.
+Let a List from before the batch keep the items, and go over it in a second batch.
+----
+main {
   var sizes = List<Int>();
   batch (D d) {
     for (f in d.files()) { sizes = sizes + List<Int>(f.size()); }
@@ -194,16 +216,4 @@ Let a List from before the batch keep the items, and go over it in a second batc
   batch (D d) {
     for (n in sizes) { d.burn(n); }
   }
-}",
-    ),
-];
-
-#[test]
-fn lists_that_are_known_before(rt: HostRuntime) -> Result<(), Fail> {
-    all_taught(rt.alloc(), Kind::WithInterfaces, &KNOWN_BEFORE)
-}
-
-#[test]
-fn lists_that_results_make(rt: HostRuntime) -> Result<(), Fail> {
-    all_taught(rt.alloc(), Kind::WithInterfaces, &MADE_BY_RESULTS)
-}
+}"#;

@@ -1,217 +1,297 @@
 // What operators and members are said to want where another type is found.
 
-use crate::said::{Found, Row, all_told};
-use std::test::Fail;
-
-/// One operand of each kind of operator, and what is in `len`, `str` and `[..]`.
-const OPERATORS: [Row; 14] = [
-    (
-        "main { print(true && 1); }",
-        "1",
-        Found::Int,
-        "This is of type `Int`, and `&&` wants a Bool.\nCompare it, as by `> 0`.",
-    ),
-    (
-        "main { print(\"a\" || true); }",
-        "\"a",
-        Found::Text,
-        "This is of type `Text`, and `||` wants a Bool.\nCompare it by `==` or `!=`.",
-    ),
-    (
-        "main { print(! 5); }",
-        "5",
-        Found::Int,
-        "This is of type `Int`, and `!` wants a Bool.\nCompare it, as by `> 0`.",
-    ),
-    (
-        "main { print(2 - true); }",
-        "true",
-        Found::Bool,
-        "`true` is of type `Bool`, and `-` wants an Int.\nDecide by `if` which Int is meant.",
-    ),
-    (
-        "main { print(-\"1\"); }",
-        "\"1",
-        Found::Text,
-        "This is of type `Text`, and `-` wants an Int.\n\
-`len` gives the number of its bytes; nothing makes a number of its digits.",
-    ),
-    (
-        "main { print(\"a\" >= 1); }",
-        "\"a",
-        Found::Text,
-        "This is of type `Text`, and `>=` wants an Int.\n\
-`len` gives the number of its bytes; nothing makes a number of its digits.",
-    ),
-    (
-        "main { print(true + 1); }",
-        "true",
-        Found::Bool,
-        "`true` is of type `Bool`, and `+` wants an Int, a Text or a List.\n`str` makes a Text of it.",
-    ),
-    (
-        "main { print(1 + \"b\"); }",
-        "\"b",
-        Found::Text,
-        "This is of type `Text`, and `+` wants a value of type `Int`, as its left operand is.\n\
-`str` makes a Text of the left operand.",
-    ),
-    (
-        "main { print(List<Int>() != List<Int>()); }",
-        "List",
-        Found::List,
-        "This is of type `List<Int>`, and `!=` wants an Int, a Bool or a Text.\n\
-Take an item of it by `[..]`, the number of its items by `len`, or go over it by `for`.",
-    ),
-    (
-        "main { print(\"1\" == len(\"a\")); }",
-        "len",
-        Found::Int,
-        "`len` gives a value of type `Int`, and `==` wants a value of type `Text`, as its left operand is.\n\
-`str` makes a Text of it.",
-    ),
-    (
-        "main { print(len(5)); }",
-        "5",
-        Found::Int,
-        "This is of type `Int`, and `len` wants a Text or a List.\n`str` makes a Text of it.",
-    ),
-    (
-        "main { print(str(\"a\")); }",
-        "\"a",
-        Found::Text,
-        "This is of type `Text`, and `str` wants an Int or a Bool.\nIt is a Text already: take `str` away.",
-    ),
-    (
-        "main { print(\"abc\"[0]); }",
-        "\"abc",
-        Found::Text,
-        "This is of type `Text`, and a List is wanted before `[`.\n\
-A Text is joined by `+`, compared by `==` and `!=` and measured by `len`; nothing makes a number of it.",
-    ),
-    (
-        "main { val a = List<Int>(1); print(a[a]); }",
-        "a]",
-        Found::List,
-        "`a` is of type `List<Int>`, and `[..]` wants an Int.\n\
-Take an item of it by `[..]`, the number of its items by `len`, or go over it by `for`.",
-    ),
-];
-
-#[test]
-fn operators_say_what_they_take(rt: HostRuntime) -> Result<(), Fail> {
-    all_told(rt.alloc(), &OPERATORS)
-}
-
-/// Operands with several operators around them.
-const LEVELS: [Row; 10] = [
-    // The right operand of `+` is the product.
-    (
-        "main { print(\"a\" + 2 * 3 - 4); }",
-        "*",
-        Found::Int,
-        "This is of type `Int`, and `+` wants a value of type `Text`, as its left operand is.\n\
-`str` makes a Text of it.",
-    ),
-    // The left operand of `-` is the whole sum.
-    (
-        "main { print(\"a\" + \"b\" - 4); }",
-        "+",
-        Found::Text,
-        "This is of type `Text`, and `-` wants an Int.\n\
-`len` gives the number of its bytes; nothing makes a number of its digits.",
-    ),
-    (
-        "main { print(1 * \"a\" * 2); }",
-        "\"a",
-        Found::Text,
-        "This is of type `Text`, and `*` wants an Int.\n\
-`len` gives the number of its bytes; nothing makes a number of its digits.",
-    ),
-    (
-        "main { val b = true || 1 + 2 * - - 3 && false; }",
-        "+",
-        Found::Int,
-        "This is of type `Int`, and `&&` wants a Bool.\nCompare it, as by `> 0`.",
-    ),
-    (
-        "main { if (1 - -1 < 2 == 3) { } }",
-        "3",
-        Found::Int,
-        "This is of type `Int`, and `==` wants a value of type `Bool`, as its left operand is.\n\
-Compare it, as by `> 0`.",
-    ),
-    (
-        "main { if (!(1 + 2) == true) { } }",
-        "+",
-        Found::Int,
-        "This is of type `Int`, and `!` wants a Bool.\nCompare it, as by `> 0`.",
-    ),
-    (
-        "main { print(-(true) * 2); }",
-        "true",
-        Found::Bool,
-        "`true` is of type `Bool`, and `-` wants an Int.\nDecide by `if` which Int is meant.",
-    ),
-    (
-        "main { val a = List<Int>(1); print(5 > (List<Bool>(true, 2 >= (a[0]))[0])); }",
-        "[0])); }",
-        Found::Bool,
-        "This is of type `Bool`, and `>` wants an Int.\nDecide by `if` which Int is meant.",
-    ),
-    (
-        "main { print(List<List<Bool>>(List<Bool>(true))[0][1] % 2); }",
-        "[1]",
-        Found::Bool,
-        "This is of type `Bool`, and `%` wants an Int.\nDecide by `if` which Int is meant.",
-    ),
-    (
-        "class B { fun m(a: Int): B { return this; } } main { print(((1)) / (new B().m(2).m(len((\")\"))))); }",
-        "m(len",
-        Found::Object,
-        "`m` gives a value of type `A`, and `/` wants an Int.\n\
-Take a field of it, or call a method that gives what is wanted.",
-    ),
-];
-
-#[test]
-fn the_tighter_operator_counts(rt: HostRuntime) -> Result<(), Fail> {
-    all_told(rt.alloc(), &LEVELS)
-}
-
-/// What stands before a dot.
-const RECEIVERS: [Row; 4] = [
-    (
-        "main { val n = 1; print(n.size); }",
-        "n.",
-        Found::Int,
-        "`n` is of type `Int`, and an object of a class is wanted before `.size`.\n\
-Take the member away: only objects have fields and methods; `str` makes a Text of this.",
-    ),
-    (
-        "interface A { } main { batch (A a) { print(- a.size); } }",
-        "a.",
-        Found::Object,
-        "`a` is of type `A`, and an object of a class is wanted before `.size`.\n\
-An object of an interface has methods alone: call one of them.",
-    ),
-    (
-        "main { batch (A r) { r.all().first(1); } }",
-        "all",
-        Found::Rows,
-        "`all` gives a value of type `Rows<Int>`, and an object of a class or an interface is wanted before `.first`.\n\
-Go over the rows by `for`, within the batch.",
-    ),
-    (
-        "main { (1 < 2) . m () ; }",
-        "<",
-        Found::Bool,
-        "This is of type `Bool`, and an object of a class or an interface is wanted before `.m`.\n\
-Take the member away: only objects have fields and methods; `str` makes a Text of this.",
-    ),
-];
-
-#[test]
-fn receivers_are_objects(rt: HostRuntime) -> Result<(), Fail> {
-    all_told(rt.alloc(), &RECEIVERS)
-}
+/// One operand of each kind of operator; operands with several operators around them, of which the tighter one counts; what
+/// stands before a dot; and left operands that tell the type of the right one, or don't.
+pub static ROWS: &str = r#"WrongType Int at 1
+----
+main { print(true && 1); }
+----
+This is of type `Int`, and `&&` wants a Bool.
+Compare it, as by `> 0`.
+====
+WrongType Text at "a
+----
+main { print("a" || true); }
+----
+This is of type `Text`, and `||` wants a Bool.
+Compare it by `==` or `!=`.
+====
+WrongType Int at 5
+----
+main { print(! 5); }
+----
+This is of type `Int`, and `!` wants a Bool.
+Compare it, as by `> 0`.
+====
+WrongType Bool at true
+----
+main { print(2 - true); }
+----
+`true` is of type `Bool`, and `-` wants an Int.
+Decide by `if` which Int is meant.
+====
+WrongType Text at "1
+----
+main { print(-"1"); }
+----
+This is of type `Text`, and `-` wants an Int.
+`len` gives the number of its bytes; nothing makes a number of its digits.
+====
+WrongType Text at "a
+----
+main { print("a" >= 1); }
+----
+This is of type `Text`, and `>=` wants an Int.
+`len` gives the number of its bytes; nothing makes a number of its digits.
+====
+WrongType Bool at true
+----
+main { print(true + 1); }
+----
+`true` is of type `Bool`, and `+` wants an Int, a Text or a List.
+`str` makes a Text of it.
+====
+WrongType Text at "b
+----
+main { print(1 + "b"); }
+----
+This is of type `Text`, and `+` wants a value of type `Int`, as its left operand is.
+`str` makes a Text of the left operand.
+====
+WrongType List<Int> at List
+----
+main { print(List<Int>() != List<Int>()); }
+----
+This is of type `List<Int>`, and `!=` wants an Int, a Bool or a Text.
+Take an item of it by `[..]`, the number of its items by `len`, or go over it by `for`.
+====
+WrongType Int at len
+----
+main { print("1" == len("a")); }
+----
+`len` gives a value of type `Int`, and `==` wants a value of type `Text`, as its left operand is.
+`str` makes a Text of it.
+====
+WrongType Int at 5
+----
+main { print(len(5)); }
+----
+This is of type `Int`, and `len` wants a Text or a List.
+`str` makes a Text of it.
+====
+WrongType Text at "a
+----
+main { print(str("a")); }
+----
+This is of type `Text`, and `str` wants an Int or a Bool.
+It is a Text already: take `str` away.
+====
+WrongType Text at "abc
+----
+main { print("abc"[0]); }
+----
+This is of type `Text`, and a List is wanted before `[`.
+A Text is joined by `+`, compared by `==` and `!=` and measured by `len`; nothing makes a number of it.
+====
+WrongType List<Int> at a]
+----
+main { val a = List<Int>(1); print(a[a]); }
+----
+`a` is of type `List<Int>`, and `[..]` wants an Int.
+Take an item of it by `[..]`, the number of its items by `len`, or go over it by `for`.
+====
+WrongType Int at *
+----
+main { print("a" + 2 * 3 - 4); }
+----
+This is of type `Int`, and `+` wants a value of type `Text`, as its left operand is.
+`str` makes a Text of it.
+====
+WrongType Text at +
+----
+main { print("a" + "b" - 4); }
+----
+This is of type `Text`, and `-` wants an Int.
+`len` gives the number of its bytes; nothing makes a number of its digits.
+====
+WrongType Text at "a
+----
+main { print(1 * "a" * 2); }
+----
+This is of type `Text`, and `*` wants an Int.
+`len` gives the number of its bytes; nothing makes a number of its digits.
+====
+WrongType Int at +
+----
+main { val b = true || 1 + 2 * - - 3 && false; }
+----
+This is of type `Int`, and `&&` wants a Bool.
+Compare it, as by `> 0`.
+====
+WrongType Int at 3
+----
+main { if (1 - -1 < 2 == 3) { } }
+----
+This is of type `Int`, and `==` wants a value of type `Bool`, as its left operand is.
+Compare it, as by `> 0`.
+====
+WrongType Int at +
+----
+main { if (!(1 + 2) == true) { } }
+----
+This is of type `Int`, and `!` wants a Bool.
+Compare it, as by `> 0`.
+====
+WrongType Bool at true
+----
+main { print(-(true) * 2); }
+----
+`true` is of type `Bool`, and `-` wants an Int.
+Decide by `if` which Int is meant.
+====
+WrongType Bool at [0])); }
+----
+main { val a = List<Int>(1); print(5 > (List<Bool>(true, 2 >= (a[0]))[0])); }
+----
+This is of type `Bool`, and `>` wants an Int.
+Decide by `if` which Int is meant.
+====
+WrongType Bool at [1]
+----
+main { print(List<List<Bool>>(List<Bool>(true))[0][1] % 2); }
+----
+This is of type `Bool`, and `%` wants an Int.
+Decide by `if` which Int is meant.
+====
+WrongType A at m(len
+----
+class B { fun m(a: Int): B { return this; } } main { print(((1)) / (new B().m(2).m(len((")"))))); }
+----
+`m` gives a value of type `A`, and `/` wants an Int.
+Take a field of it, or call a method that gives what is wanted.
+====
+WrongType Int at n.
+----
+main { val n = 1; print(n.size); }
+----
+`n` is of type `Int`, and an object of a class is wanted before `.size`.
+Take the member away: only objects have fields and methods; `str` makes a Text of this.
+====
+WrongType A at a.
+----
+interface A { } main { batch (A a) { print(- a.size); } }
+----
+`a` is of type `A`, and an object of a class is wanted before `.size`.
+An object of an interface has methods alone: call one of them.
+====
+WrongType Rows<Int> at all
+----
+main { batch (A r) { r.all().first(1); } }
+----
+`all` gives a value of type `Rows<Int>`, and an object of a class or an interface is wanted before `.first`.
+Go over the rows by `for`, within the batch.
+====
+WrongType Bool at <
+----
+main { (1 < 2) . m () ; }
+----
+This is of type `Bool`, and an object of a class or an interface is wanted before `.m`.
+Take the member away: only objects have fields and methods; `str` makes a Text of this.
+====
+WrongType Int at 77
+----
+main { print("a" + "b" + 77); }
+....
+main { print(str(1) + str(2 * 3) + 77); }
+....
+main { val t = ("a" + str(1)); val u = t; print(u + 77); }
+....
+class C { fun f(a: Int, t: Text): Text { return t + 77; } } main { }
+....
+main { val l = List<Text>("a"); for (x in l) { print(x + 77); } }
+....
+main { val l = List<List<Text>>(); print(l[1][2] + 77); }
+....
+class C { fun f(): Text { return ""; } } main { print(new C().f() + 77); }
+....
+class C { t: Text; } class D { t: Text; } main { print(q.t + 77); }
+....
+main { try { } catch (x) { print(x + 77); } }
+....
+interface D { fun t(): Rows<Text>; } main { batch (D r) { for (x in r.t()) { print(x + 77); } } }
+....
+main { if (true) { val t = 1; } if (true) { val t = ""; print(1 < 2 && t + 77); } }
+....
+class C { t: Text; fun f(t: Int) { print(this.t + 77); } } main { }
+----
+This is of type `Int`, and `+` wants a value of type `Text`, as its left operand is.
+`str` makes a Text of it.
+====
+WrongType Text at "a
+----
+main { print(1 + 2 == "a"); }
+....
+main { print(-len("") == "a"); }
+....
+main { print(1 - q.n() == "a"); }
+....
+main { print(q.n() % 2 == "a"); }
+....
+main { var n = 5; while (n == "a") { } }
+....
+class C { n: Int; fun n(): Text { return ""; } } main { print(new C(1).n == "a"); }
+....
+main { for (n in List<Int>(1, 2)) { print((n) == "a"); } }
+....
+main { print(true || - -1 == "a"); }
+----
+This is of type `Text`, and `==` wants a value of type `Int`, as its left operand is.
+`str` makes a Text of the left operand.
+====
+WrongType Int at 77
+----
+main { print(true != 77); }
+....
+main { print(1 < 2 != 77); }
+....
+main { print(1 != 2 != 77); }
+....
+main { print(!q.n() != 77); }
+....
+main { val b = 1 > 2 || q.n(); print(b != 77); }
+....
+main { print((1 == 2 && q.n()) != 77); }
+----
+This is of type `Int`, and `!=` wants a value of type `Bool`, as its left operand is.
+Compare it, as by `> 0`.
+====
+WrongType Int at 77
+----
+main { print(List<Bool>(true) + 77); }
+....
+main { val l = List<List<Bool>>(); for (x in l) { print(x + List<Bool>() + 77); } }
+----
+This is of type `Int`, and `+` wants a value of type `List<Bool>`, as its left operand is.
+A List is made by `List<T>(..)`, with the type of its items in place of `T`.
+====
+WrongType Int at 77
+----
+main { print(q + 77); }
+....
+class C { fun n(): Int { return 1; } } class D { fun n(): Text { return ""; } } main { print(q.n() + 77); }
+....
+class C { t: Int; } class D { t: Text; } main { print(q.t + 77); }
+....
+main { val t = q; print(t + 77); }
+....
+main { val t = t; print(t + 77); }
+----
+This is of type `Int`, and `+` wants the type of its left operand here.
+If the left operand is a Text, `str` makes one of this.
+====
+WrongType Text at "a
+----
+main { print(q != "a"); }
+----
+This is of type `Text`, and `!=` wants the type of its left operand here.
+If the left operand is an Int or a Bool, `str` makes a Text of that."#;
