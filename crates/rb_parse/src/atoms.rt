@@ -10,18 +10,16 @@ ghost use Rattle.rb_parse.specs.Parts.{atom_of};
 use crate::kinds::{FALSE, LEN, LIST, MINUS, NEW, NOT, OPEN, STR, THIS, TRUE};
 use crate::next::{same_kind, take_if};
 use crate::values::{name, number, text};
-use rb_trees::{Expr, ExprForm, Memory, Shared, Token, TokenKind, Value};
+use rb_trees::{Boxed, Expr, ExprForm, Memory, Shared, Token, TokenKind, Value};
 use std::alloc::Global;
 
-/// The expression of a form at a token.
+/// The expression of a form at a token, in a box.
 #[tactic(auto, using(rb_trees::proofs::mirror::Exprs::exprs))]
-pub(crate) fn of_form(token: Token, form: ExprForm) -> Expr
-    ensures { mirror_expr result ≡ mirror_expr_form form token.start }
+pub(crate) fn boxed(alloc: Global, token: Token, form: ExprForm) -> Result<Boxed<Expr>, Memory>
+    ensures { IfOk result (λ e. mirror_expr e ≡ mirror_expr_form form token.start) }
 {
-    Expr {
-        at: token.start,
-        form,
-    }
+    let at = token.start;
+    Boxed::new(alloc, Expr { at, form })
 }
 
 /// The expression of one token that comes next, if one does, and the tokens behind it.
@@ -30,32 +28,32 @@ pub(crate) fn atom<'t>(
     alloc: Global,
     source: &[u8],
     tokens: &'t [Token],
-) -> Result<Option<(Expr, &'t [Token])>, Memory>
+) -> Result<Option<(Boxed<Expr>, &'t [Token])>, Memory>
     ensures value { IfOk result (λ o. atom_of source.now tokens.now ≡ option_map (λ x. (mirror_expr x.0, x.1.now)) o) }
     ensures shorter { IfOk result (λ o. IfSome o (λ x. length x.1.now < length tokens.now)) }
 {
     if let Some((token, rest)) = take_if(TokenKind::Number, tokens) {
         let form = ExprForm::Lit(Value::Int(number(source, token)));
-        return Ok(Some((of_form(token, form), rest)));
+        return Ok(Some((boxed(alloc, token, form)?, rest)));
     }
     if let Some((token, rest)) = take_if(TokenKind::TextLit, tokens) {
         let form = ExprForm::Lit(Value::Text(Shared::new(alloc, text(alloc, source, token)?)?));
-        return Ok(Some((of_form(token, form), rest)));
+        return Ok(Some((boxed(alloc, token, form)?, rest)));
     }
     if let Some((token, rest)) = take_if(TRUE, tokens) {
         let form = ExprForm::Lit(Value::Bool(true));
-        return Ok(Some((of_form(token, form), rest)));
+        return Ok(Some((boxed(alloc, token, form)?, rest)));
     }
     if let Some((token, rest)) = take_if(FALSE, tokens) {
         let form = ExprForm::Lit(Value::Bool(false));
-        return Ok(Some((of_form(token, form), rest)));
+        return Ok(Some((boxed(alloc, token, form)?, rest)));
     }
     if let Some((token, rest)) = take_if(THIS, tokens) {
-        return Ok(Some((of_form(token, ExprForm::This), rest)));
+        return Ok(Some((boxed(alloc, token, ExprForm::This)?, rest)));
     }
     if let Some((token, rest)) = take_if(TokenKind::Name, tokens) {
         let form = ExprForm::Name(name(alloc, source, token)?);
-        return Ok(Some((of_form(token, form), rest)));
+        return Ok(Some((boxed(alloc, token, form)?, rest)));
     }
     Ok(None)
 }

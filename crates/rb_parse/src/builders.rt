@@ -1,13 +1,12 @@
 // Expressions of their parts.
 
-ghost use Rattle.std.specs.Prelude.{◌≡◌};
 ghost use Rattle.rb_trees.specs.mirror.Types.{mirror_type};
 ghost use Rattle.rb_trees.specs.mirror.Code as code;
 ghost use Rattle.rb_trees.specs.mirror.Code.{mirror_expr, mirror_exprs};
 ghost use Rattle.rb_meaning_bytes.specs.grammar.Values.{name_of};
 ghost use Rattle.rb_parse.specs.Readers.{Builds};
 
-use crate::atoms::of_form;
+use crate::atoms::boxed;
 use crate::values::name as name_at;
 use rb_trees::{BinOp, Boxed, Expr, ExprForm, Memory, Seq, Token, TypeTree, UnOp};
 use std::alloc::Global;
@@ -18,33 +17,39 @@ pub(crate) fn binary(
     alloc: Global,
     sign: Token,
     op: BinOp,
-    left: Expr,
-    right: Expr,
-) -> Result<Expr, Memory>
+    left: Boxed<Expr>,
+    right: Boxed<Expr>,
+) -> Result<Boxed<Expr>, Memory>
     ensures { Builds result (code.Binary sign.start op (mirror_expr left) (mirror_expr right)) }
 {
-    let left = Boxed::new(alloc, left)?;
-    let right = Boxed::new(alloc, right)?;
-    Ok(of_form(sign, ExprForm::Binary(op, left, right)))
+    boxed(alloc, sign, ExprForm::Binary(op, left, right))
 }
 
 /// The operator at a sign or word before an operand.
 #[tactic(auto, using(rb_trees::proofs::mirror::Exprs::exprs))]
-pub(crate) fn unary(alloc: Global, sign: Token, op: UnOp, operand: Expr) -> Result<Expr, Memory>
+pub(crate) fn unary(
+    alloc: Global,
+    sign: Token,
+    op: UnOp,
+    operand: Boxed<Expr>,
+) -> Result<Boxed<Expr>, Memory>
     ensures { Builds result (code.Unary sign.start op (mirror_expr operand)) }
 {
-    let operand = Boxed::new(alloc, operand)?;
-    Ok(of_form(sign, ExprForm::Unary(op, operand)))
+    boxed(alloc, sign, ExprForm::Unary(op, operand))
 }
 
 /// The field of a name.
 #[tactic(auto, using(rb_trees::proofs::mirror::Exprs::exprs))]
-pub(crate) fn field(alloc: Global, source: &[u8], object: Expr, name: Token) -> Result<Expr, Memory>
+pub(crate) fn field(
+    alloc: Global,
+    source: &[u8],
+    object: Boxed<Expr>,
+    name: Token,
+) -> Result<Boxed<Expr>, Memory>
     ensures { Builds result (code.Field name.start (mirror_expr object) (name_of source.now name)) }
 {
-    let object = Boxed::new(alloc, object)?;
     let word = name_at(alloc, source, name)?;
-    Ok(of_form(name, ExprForm::Field(object, word)))
+    boxed(alloc, name, ExprForm::Field(object, word))
 }
 
 /// The call of a method of a name.
@@ -52,15 +57,14 @@ pub(crate) fn field(alloc: Global, source: &[u8], object: Expr, name: Token) -> 
 pub(crate) fn call(
     alloc: Global,
     source: &[u8],
-    object: Expr,
+    object: Boxed<Expr>,
     name: Token,
     args: Seq<Expr>,
-) -> Result<Expr, Memory>
+) -> Result<Boxed<Expr>, Memory>
     ensures { Builds result (code.Call name.start (mirror_expr object) (name_of source.now name) (mirror_exprs args)) }
 {
-    let object = Boxed::new(alloc, object)?;
     let word = name_at(alloc, source, name)?;
-    Ok(of_form(name, ExprForm::Call(object, word, args)))
+    boxed(alloc, name, ExprForm::Call(object, word, args))
 }
 
 /// The index at a bracket.
@@ -68,14 +72,12 @@ pub(crate) fn call(
 pub(crate) fn index_node(
     alloc: Global,
     sign: Token,
-    list: Expr,
-    place: Expr,
-) -> Result<Expr, Memory>
+    list: Boxed<Expr>,
+    place: Boxed<Expr>,
+) -> Result<Boxed<Expr>, Memory>
     ensures { Builds result (code.Index sign.start (mirror_expr list) (mirror_expr place)) }
 {
-    let list = Boxed::new(alloc, list)?;
-    let place = Boxed::new(alloc, place)?;
-    Ok(of_form(sign, ExprForm::Index(list, place)))
+    boxed(alloc, sign, ExprForm::Index(list, place))
 }
 
 /// The new object of a class.
@@ -86,17 +88,22 @@ pub(crate) fn object(
     word: Token,
     class: Token,
     args: Seq<Expr>,
-) -> Result<Expr, Memory>
+) -> Result<Boxed<Expr>, Memory>
     ensures { Builds result (code.New word.start (name_of source.now class) (mirror_exprs args)) }
 {
     let class = name_at(alloc, source, class)?;
-    Ok(of_form(word, ExprForm::New(class, args)))
+    boxed(alloc, word, ExprForm::New(class, args))
 }
 
 /// The list of items of a type.
 #[tactic(auto, using(rb_trees::proofs::mirror::Exprs::exprs))]
-pub(crate) fn items(word: Token, item: TypeTree, args: Seq<Expr>) -> Expr
-    ensures { mirror_expr result ≡ code.Items word.start (mirror_type item) (mirror_exprs args) }
+pub(crate) fn items(
+    alloc: Global,
+    word: Token,
+    item: TypeTree,
+    args: Seq<Expr>,
+) -> Result<Boxed<Expr>, Memory>
+    ensures { Builds result (code.Items word.start (mirror_type item) (mirror_exprs args)) }
 {
-    of_form(word, ExprForm::Items(item, args))
+    boxed(alloc, word, ExprForm::Items(item, args))
 }

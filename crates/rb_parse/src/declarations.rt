@@ -21,7 +21,7 @@ use crate::stop::Stop;
 use crate::types::type_tree;
 use crate::values::name;
 use rb_trees::{
-    Body, Class, Expr, Interface, Method, Param, Program, Seq, Signature, Token, TokenKind,
+    Body, Boxed, Class, Expr, Interface, Method, Param, Program, Seq, Signature, Token, TokenKind,
     TypeForm, TypeTree,
 };
 use std::alloc::Global;
@@ -61,13 +61,10 @@ fn param<'t>(
 {
     let (token, rest) = expect(TokenKind::Name, tokens)?;
     let (_, rest) = expect(COLON, rest)?;
+    let name = name(alloc, source, token)?;
     let (kind, rest) = type_tree(alloc, source, rest)?;
-    let param = Param {
-        name: name(alloc, source, token)?,
-        at: token.start,
-        kind,
-    };
-    Ok((param, rest))
+    let at = token.start;
+    Ok((Param { name, at, kind }, rest))
 }
 
 /// A comma and a parameter.
@@ -140,9 +137,10 @@ fn signature<'t>(
     let (token, rest) = expect(TokenKind::Name, rest)?;
     let (_, rest) = expect(OPEN, rest)?;
     let (params, rest) = params_to_close(alloc, source, rest)?;
+    let name = name(alloc, source, token)?;
     let (result, rest) = result_type(alloc, source, token.start, rest)?;
     let signature = Signature {
-        name: name(alloc, source, token)?,
+        name,
         at: token.start,
         params,
         result,
@@ -279,7 +277,7 @@ fn returned<'t>(
     alloc: Global,
     source: &[u8],
     tokens: &'t [Token],
-) -> Result<(Option<Expr>, &'t [Token]), Stop>
+) -> Result<(Option<Boxed<Expr>>, &'t [Token]), Stop>
     ensures value { Reads (option_map mirror_expr) result (read_of source.now s.Returns tokens.now) }
     ensures shorter { NoLonger tokens.now result }
 {
@@ -302,6 +300,10 @@ fn body<'t>(alloc: Global, source: &[u8], tokens: &'t [Token]) -> Result<(Body, 
     let (statements, rest) = statements(alloc, source, rest)?;
     let (result, rest) = returned(alloc, source, rest)?;
     let (_, rest) = expect(CLOSE_BRACE, rest)?;
+    let result = match result {
+        Some(expr) => Some(expr.into_inner()),
+        None => None,
+    };
     Ok((Body { statements, result }, rest))
 }
 
@@ -399,7 +401,7 @@ fn program_part<'t>(
     alloc: Global,
     source: &[u8],
     tokens: &'t [Token],
-) -> Result<(Program, &'t [Token]), Stop>
+) -> Result<(Boxed<Program>, &'t [Token]), Stop>
     ensures value { Reads mirror_program result (read_of source.now s.TheProgram tokens.now) }
     ensures shorter { Shortens tokens.now result }
 {
@@ -415,12 +417,16 @@ fn program_part<'t>(
         body,
         at: word.start,
     };
-    Ok((program, rest))
+    Ok((Boxed::new(alloc, program)?, rest))
 }
 
 /// The program that all tokens are.
 #[tactic(auto, unfolding(crate::specs::Reading::whole_of))]
-pub(crate) fn program(alloc: Global, source: &[u8], tokens: &[Token]) -> Result<Program, Stop>
+pub(crate) fn program(
+    alloc: Global,
+    source: &[u8],
+    tokens: &[Token],
+) -> Result<Boxed<Program>, Stop>
     ensures { Gives mirror_program left_of result (whole_of s.TheProgram source.now tokens.now) }
 {
     let (program, rest) = program_part(alloc, source, tokens)?;

@@ -15,7 +15,7 @@ use crate::levels::{Level, operator, repeats};
 use crate::next::{expect, take_if};
 use crate::stop::Stop;
 use crate::types::item_type;
-use rb_trees::{BinOp, Expr, Seq, Token, TokenKind, UnOp};
+use rb_trees::{BinOp, Boxed, Expr, Seq, Token, TokenKind, UnOp};
 use std::alloc::Global;
 
 /// Operands of a level joined by its operators.
@@ -26,7 +26,7 @@ pub(crate) fn chain<'t>(
     source: &[u8],
     level: Level,
     tokens: &'t [Token],
-) -> Result<(Expr, &'t [Token]), Stop>
+) -> Result<(Boxed<Expr>, &'t [Token]), Stop>
     ensures value { Reads mirror_expr result (read_of source.now (s.Chain (p.level_of level)) tokens.now) }
     ensures shorter { Shortens tokens.now result }
 {
@@ -42,7 +42,7 @@ fn operand<'t>(
     source: &[u8],
     level: Level,
     tokens: &'t [Token],
-) -> Result<(Expr, &'t [Token]), Stop>
+) -> Result<(Boxed<Expr>, &'t [Token]), Stop>
     ensures value { Reads mirror_expr result (p.operand_of source.now level tokens.now) }
     ensures shorter { Shortens tokens.now result }
 {
@@ -63,9 +63,9 @@ fn chain_rest<'t>(
     alloc: Global,
     source: &[u8],
     level: Level,
-    left: Expr,
+    left: Boxed<Expr>,
     tokens: &'t [Token],
-) -> Result<(Expr, &'t [Token]), Stop>
+) -> Result<(Boxed<Expr>, &'t [Token]), Stop>
     ensures value { Reads mirror_expr result (p.more_of source.now level (mirror_expr left) tokens.now) }
     ensures shorter { NoLonger tokens.now result }
 {
@@ -82,11 +82,11 @@ fn joined<'t>(
     alloc: Global,
     source: &[u8],
     level: Level,
-    left: Expr,
+    left: Boxed<Expr>,
     op: BinOp,
     sign: Token,
     tokens: &'t [Token],
-) -> Result<(Expr, &'t [Token]), Stop>
+) -> Result<(Boxed<Expr>, &'t [Token]), Stop>
     ensures value { Reads mirror_expr result (p.joined_of source.now level (mirror_expr left) op sign tokens.now) }
     ensures shorter { Shortens tokens.now result }
 {
@@ -106,7 +106,7 @@ fn prefix<'t>(
     alloc: Global,
     source: &[u8],
     tokens: &'t [Token],
-) -> Result<(Expr, &'t [Token]), Stop>
+) -> Result<(Boxed<Expr>, &'t [Token]), Stop>
     ensures value { Reads mirror_expr result (read_of source.now s.Prefix tokens.now) }
     ensures shorter { Shortens tokens.now result }
 {
@@ -129,7 +129,7 @@ fn prefixed<'t>(
     op: UnOp,
     sign: Token,
     tokens: &'t [Token],
-) -> Result<(Expr, &'t [Token]), Stop>
+) -> Result<(Boxed<Expr>, &'t [Token]), Stop>
     ensures value { Reads mirror_expr result (p.prefixed_of source.now op sign tokens.now) }
     ensures shorter { Shortens tokens.now result }
 {
@@ -143,9 +143,9 @@ fn prefixed<'t>(
 fn members<'t>(
     alloc: Global,
     source: &[u8],
-    object: Expr,
+    object: Boxed<Expr>,
     tokens: &'t [Token],
-) -> Result<(Expr, &'t [Token]), Stop>
+) -> Result<(Boxed<Expr>, &'t [Token]), Stop>
     ensures value { Reads mirror_expr result (p.members_of source.now (mirror_expr object) tokens.now) }
     ensures shorter { NoLonger tokens.now result }
 {
@@ -165,10 +165,10 @@ fn members<'t>(
 fn called<'t>(
     alloc: Global,
     source: &[u8],
-    object: Expr,
+    object: Boxed<Expr>,
     name: Token,
     tokens: &'t [Token],
-) -> Result<(Expr, &'t [Token]), Stop>
+) -> Result<(Boxed<Expr>, &'t [Token]), Stop>
     ensures value { Reads mirror_expr result (p.called_of source.now (mirror_expr object) name tokens.now) }
     ensures shorter { NoLonger tokens.now result }
 {
@@ -187,10 +187,10 @@ fn called<'t>(
 fn index<'t>(
     alloc: Global,
     source: &[u8],
-    list: Expr,
+    list: Boxed<Expr>,
     sign: Token,
     tokens: &'t [Token],
-) -> Result<(Expr, &'t [Token]), Stop>
+) -> Result<(Boxed<Expr>, &'t [Token]), Stop>
     ensures value { Reads mirror_expr result (p.index_at source.now (mirror_expr list) sign tokens.now) }
     ensures shorter { Shortens tokens.now result }
 {
@@ -227,18 +227,18 @@ fn arguments<'t>(
 fn more_arguments<'t>(
     alloc: Global,
     source: &[u8],
-    first: Expr,
+    first: Boxed<Expr>,
     tokens: &'t [Token],
 ) -> Result<(Seq<Expr>, &'t [Token]), Stop>
     ensures value { Reads mirror_exprs result (p.more_on source.now (mirror_expr first) tokens.now) }
     ensures shorter { NoLonger tokens.now result }
 {
     let mut list = Seq::new(alloc);
-    list.push(first)?;
+    list.push(first.into_inner())?;
     let mut rest = tokens;
     while let Some((_, more)) = take_if(COMMA, rest) {
         let (next, behind) = chain(alloc, source, Level::Or, more)?;
-        list.push(next)?;
+        list.push(next.into_inner())?;
         rest = behind;
     }
     Ok((list, rest))
@@ -247,7 +247,11 @@ fn more_arguments<'t>(
 /// The part of an expression that members follow.
 #[cycle(expressions)]
 #[tactic(auto, using(crate::proofs::Equations::first_is))]
-fn first<'t>(alloc: Global, source: &[u8], tokens: &'t [Token]) -> Result<(Expr, &'t [Token]), Stop>
+fn first<'t>(
+    alloc: Global,
+    source: &[u8],
+    tokens: &'t [Token],
+) -> Result<(Boxed<Expr>, &'t [Token]), Stop>
     ensures value { Reads mirror_expr result (read_of source.now s.First tokens.now) }
     ensures shorter { Shortens tokens.now result }
 {
@@ -281,7 +285,7 @@ fn measured<'t>(
     op: UnOp,
     word: Token,
     tokens: &'t [Token],
-) -> Result<(Expr, &'t [Token]), Stop>
+) -> Result<(Boxed<Expr>, &'t [Token]), Stop>
     ensures value { Reads mirror_expr result (p.measured_of source.now op word tokens.now) }
     ensures shorter { Shortens tokens.now result }
 {
@@ -298,7 +302,7 @@ fn new_object<'t>(
     source: &[u8],
     word: Token,
     tokens: &'t [Token],
-) -> Result<(Expr, &'t [Token]), Stop>
+) -> Result<(Boxed<Expr>, &'t [Token]), Stop>
     ensures value { Reads mirror_expr result (p.object_of source.now word tokens.now) }
     ensures shorter { Shortens tokens.now result }
 {
@@ -316,14 +320,15 @@ fn new_list<'t>(
     source: &[u8],
     word: Token,
     tokens: &'t [Token],
-) -> Result<(Expr, &'t [Token]), Stop>
+) -> Result<(Boxed<Expr>, &'t [Token]), Stop>
     ensures value { Reads mirror_expr result (p.list_of source.now word tokens.now) }
     ensures shorter { Shortens tokens.now result }
 {
     let (item, rest) = item_type(alloc, source, tokens)?;
     let (_, rest) = expect(OPEN, rest)?;
     let (args, rest) = arguments(alloc, source, rest)?;
-    Ok((items(word, item, args), rest))
+    let list = items(alloc, word, item.into_inner(), args)?;
+    Ok((list, rest))
 }
 
 /// An expression and the bracket that closes it.
@@ -333,7 +338,7 @@ pub(crate) fn inside<'t>(
     alloc: Global,
     source: &[u8],
     tokens: &'t [Token],
-) -> Result<(Expr, &'t [Token]), Stop>
+) -> Result<(Boxed<Expr>, &'t [Token]), Stop>
     ensures value { Reads mirror_expr result (p.expression_to_close source.now tokens.now) }
     ensures shorter { Shortens tokens.now result }
 {

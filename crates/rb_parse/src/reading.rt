@@ -14,12 +14,12 @@ ghost use Rattle.rb_parse.specs.Outcomes.{AtMostOne};
 use crate::declarations::program;
 use crate::limits::broken;
 use crate::stop::{Refusal, Stop};
-use rb_trees::{Program, ReadError, Token};
+use rb_trees::{Boxed, Program, ReadError, Token};
 use std::alloc::Global;
 
 /// The program that the tokens are, within the limits.
 #[tactic(auto, unfolding(crate::specs::Nested::limited_of))]
-fn limited(alloc: Global, source: &[u8], tokens: &[Token]) -> Result<Program, Refusal>
+fn limited(alloc: Global, source: &[u8], tokens: &[Token]) -> Result<Boxed<Program>, Refusal>
     ensures { Gives mirror_program refusal_told result (limited_of TheProgram source.now tokens.now) }
 {
     match broken(tokens) {
@@ -34,7 +34,12 @@ fn limited(alloc: Global, source: &[u8], tokens: &[Token]) -> Result<Program, Re
 
 /// Why the tokens aren't read where one of them breaks a limit, with so many tokens left.
 #[tactic(auto, using(crate::proofs::Laws::stops_within))]
-fn cut(alloc: Global, source: &[u8], tokens: &[Token], left: usize) -> Result<Program, Refusal>
+fn cut(
+    alloc: Global,
+    source: &[u8],
+    tokens: &[Token],
+    left: usize,
+) -> Result<Boxed<Program>, Refusal>
     requires some { 0 < left }
     requires within { left ≤ length tokens.now }
     ensures { Gives mirror_program refusal_told result (cut_of TheProgram source.now tokens.now left) }
@@ -81,7 +86,7 @@ pub fn parse_tokens(alloc: Global, source: &[u8], tokens: &[Token]) -> Result<Pr
     ensures read { Tells mirror_program read_refusal result (Read source.now tokens.now) }
 {
     match limited(alloc, source, tokens) {
-        Ok(program) => Ok(program),
+        Ok(program) => Ok(program.into_inner()),
         Err(Refusal::Unexpected(left)) => Err(ReadError::Unexpected(place(source, tokens, left))),
         Err(Refusal::TooNested(left)) => Err(ReadError::TooNested(place(source, tokens, left))),
         Err(Refusal::Memory) => Err(ReadError::Memory),

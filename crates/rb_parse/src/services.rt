@@ -29,9 +29,10 @@ fn given_field<'t>(
 {
     let (token, rest) = expect(TokenKind::Name, tokens)?;
     let (_, rest) = expect(ASSIGN, rest)?;
+    let name = name(alloc, source, token)?;
     let (given, rest) = literal(alloc, source, rest)?;
     let (_, rest) = expect(SEMICOLON, rest)?;
-    Ok(((name(alloc, source, token)?, given), rest))
+    Ok(((name, given), rest))
 }
 
 /// The fields that an object gives.

@@ -18,7 +18,7 @@ use crate::levels::Level;
 use crate::next::{expect, same_kind, take_if};
 use crate::stop::Stop;
 use crate::values::name;
-use rb_trees::{Expr, Stmt, StmtForm, Token, TokenKind, Word};
+use rb_trees::{Boxed, Expr, Stmt, StmtForm, Token, TokenKind, Word};
 use std::alloc::Global;
 
 /// The statement of a form at a token.
@@ -64,7 +64,7 @@ pub(crate) fn expression_to_end<'t>(
     alloc: Global,
     source: &[u8],
     tokens: &'t [Token],
-) -> Result<(Expr, &'t [Token]), Stop>
+) -> Result<(Boxed<Expr>, &'t [Token]), Stop>
     ensures value { Reads mirror_expr result (b.expression_to_end source.now tokens.now) }
     ensures shorter { Shortens tokens.now result }
 {
@@ -79,7 +79,7 @@ fn named_value<'t>(
     alloc: Global,
     source: &[u8],
     tokens: &'t [Token],
-) -> Result<((Word, Expr), &'t [Token]), Stop>
+) -> Result<((Word, Boxed<Expr>), &'t [Token]), Stop>
     ensures value { Reads (λ x. (x.0, mirror_expr x.1)) result (b.named_value_of source.now tokens.now) }
     ensures shorter { Shortens tokens.now result }
 {
@@ -96,7 +96,7 @@ pub(crate) fn condition<'t>(
     alloc: Global,
     source: &[u8],
     tokens: &'t [Token],
-) -> Result<(Expr, &'t [Token]), Stop>
+) -> Result<(Boxed<Expr>, &'t [Token]), Stop>
     ensures value { Reads mirror_expr result (b.condition_of source.now tokens.now) }
     ensures shorter { Shortens tokens.now result }
 {
@@ -110,7 +110,7 @@ fn printed<'t>(
     alloc: Global,
     source: &[u8],
     tokens: &'t [Token],
-) -> Result<(Expr, &'t [Token]), Stop>
+) -> Result<(Boxed<Expr>, &'t [Token]), Stop>
     ensures value { Reads mirror_expr result (b.printed_of source.now tokens.now) }
     ensures shorter { Shortens tokens.now result }
 {
@@ -125,7 +125,7 @@ pub(crate) fn each<'t>(
     alloc: Global,
     source: &[u8],
     tokens: &'t [Token],
-) -> Result<((Word, Expr), &'t [Token]), Stop>
+) -> Result<((Word, Boxed<Expr>), &'t [Token]), Stop>
     ensures value { Reads (λ x. (x.0, mirror_expr x.1)) result (b.each_of source.now tokens.now) }
     ensures shorter { Shortens tokens.now result }
 {
@@ -177,18 +177,19 @@ pub(crate) fn rooted<'t>(
 fn ended<'t>(
     alloc: Global,
     source: &[u8],
-    left: Expr,
+    left: Boxed<Expr>,
     tokens: &'t [Token],
 ) -> Result<(Stmt, &'t [Token]), Stop>
     ensures value { Reads mirror_stmt result (b.ended_of source.now (mirror_expr left) tokens.now) }
     ensures shorter { Shortens tokens.now result }
 {
     if let Some((end, rest)) = take_if(SEMICOLON, tokens) {
-        return Ok((of_form(end, StmtForm::Run(left)), rest));
+        return Ok((of_form(end, StmtForm::Run(left.into_inner())), rest));
     }
     if let Some((sign, rest)) = take_if(ASSIGN, tokens) {
         let (right, rest) = expression_to_end(alloc, source, rest)?;
-        return Ok((of_form(sign, StmtForm::Assign(left, right)), rest));
+        let form = StmtForm::Assign(left.into_inner(), right.into_inner());
+        return Ok((of_form(sign, form), rest));
     }
     Err(Stop::Unexpected(tokens.len()))
 }
@@ -205,19 +206,19 @@ pub(crate) fn simple<'t>(
 {
     if let Some((word, rest)) = take_if(VAL, tokens) {
         let ((name, value), rest) = named_value(alloc, source, rest)?;
-        return Ok((of_form(word, StmtForm::Val(name, value)), rest));
+        return Ok((of_form(word, StmtForm::Val(name, value.into_inner())), rest));
     }
     if let Some((word, rest)) = take_if(VAR, tokens) {
         let ((name, value), rest) = named_value(alloc, source, rest)?;
-        return Ok((of_form(word, StmtForm::Var(name, value)), rest));
+        return Ok((of_form(word, StmtForm::Var(name, value.into_inner())), rest));
     }
     if let Some((word, rest)) = take_if(PRINT, tokens) {
         let (value, rest) = printed(alloc, source, rest)?;
-        return Ok((of_form(word, StmtForm::Print(value)), rest));
+        return Ok((of_form(word, StmtForm::Print(value.into_inner())), rest));
     }
     if let Some((word, rest)) = take_if(THROW, tokens) {
         let (text, rest) = expression_to_end(alloc, source, rest)?;
-        return Ok((of_form(word, StmtForm::Throw(text)), rest));
+        return Ok((of_form(word, StmtForm::Throw(text.into_inner())), rest));
     }
     let (left, rest) = chain(alloc, source, Level::Or, tokens)?;
     ended(alloc, source, left, rest)

@@ -57,7 +57,8 @@ fn if_statement<'t>(
     let (condition, rest) = condition(alloc, source, tokens)?;
     let (yes, rest) = block(alloc, source, rest)?;
     let (no, rest) = otherwise(alloc, source, rest)?;
-    Ok((of_form(word, StmtForm::If(condition, yes, no)), rest))
+    let form = StmtForm::If(condition.into_inner(), yes, no);
+    Ok((of_form(word, form), rest))
 }
 
 /// The block of an `else`, or an empty one.
@@ -91,7 +92,8 @@ fn while_statement<'t>(
 {
     let (condition, rest) = condition(alloc, source, tokens)?;
     let (block, rest) = block(alloc, source, rest)?;
-    Ok((of_form(word, StmtForm::While(condition, block)), rest))
+    let form = StmtForm::While(condition.into_inner(), block);
+    Ok((of_form(word, form), rest))
 }
 
 /// What follows `for`.
@@ -108,7 +110,8 @@ fn for_statement<'t>(
 {
     let ((name, list), rest) = each(alloc, source, tokens)?;
     let (block, rest) = block(alloc, source, rest)?;
-    Ok((of_form(word, StmtForm::For(name, list, block)), rest))
+    let form = StmtForm::For(name, list.into_inner(), block);
+    Ok((of_form(word, form), rest))
 }
 
 /// What follows `try`.

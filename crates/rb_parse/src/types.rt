@@ -43,13 +43,11 @@ pub(crate) fn type_tree<'t>(
     }
     if let Some((word, rest)) = take_if(LIST, tokens) {
         let (item, rest) = item_type(alloc, source, rest)?;
-        let form = TypeForm::ListOf(Boxed::new(alloc, item)?);
-        return Ok((of_form(word, form), rest));
+        return Ok((of_form(word, TypeForm::ListOf(item)), rest));
     }
     if let Some((word, rest)) = take_if(ROWS, tokens) {
         let (row, rest) = item_type(alloc, source, rest)?;
-        let form = TypeForm::RowsOf(Boxed::new(alloc, row)?);
-        return Ok((of_form(word, form), rest));
+        return Ok((of_form(word, TypeForm::RowsOf(row)), rest));
     }
     Err(Stop::Unexpected(tokens.len()))
 }
@@ -61,12 +59,13 @@ pub(crate) fn item_type<'t>(
     alloc: Global,
     source: &[u8],
     tokens: &'t [Token],
-) -> Result<(TypeTree, &'t [Token]), Stop>
+) -> Result<(Boxed<TypeTree>, &'t [Token]), Stop>
     ensures value { Reads mirror_type result (item_of source.now tokens.now) }
     ensures shorter { Shortens tokens.now result }
 {
     let (_, rest) = expect(LESS, tokens)?;
     let (item, rest) = type_tree(alloc, source, rest)?;
+    let item = Boxed::new(alloc, item)?;
     let (_, rest) = expect(GREATER, rest)?;
     Ok((item, rest))
 }

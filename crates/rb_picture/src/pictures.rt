@@ -9,7 +9,7 @@ use rb_marks::{Marks, mark};
 use rb_parse::parse_program;
 use rb_places::Places;
 use rb_split::{SplitStop, split_all};
-use rb_trees::{LexError, Memory, ReadError, Refusal, Split, TypeError, Word};
+use rb_trees::{Boxed, LexError, Memory, ReadError, Refusal, Split, TypeError, Word};
 use rb_types::{Typed, check};
 use std::alloc::Global;
 
@@ -47,20 +47,20 @@ pub fn picture<'a>(alloc: Global, name: &'a [u8], text: &'a [u8]) -> Result<Opti
         },
     };
     match typed_program(alloc, text)? {
-        Some(typed) => Ok(Some(drawn(alloc, source, &typed)?)),
+        Some(typed) => Ok(Some(drawn(alloc, source, typed.get())?)),
         None => Ok(None),
     }
 }
 
 /// The typed program that a text is, if it is one.
-fn typed_program(alloc: Global, text: &[u8]) -> Result<Option<Typed>, Memory> {
+fn typed_program(alloc: Global, text: &[u8]) -> Result<Option<Boxed<Typed>>, Memory> {
     let program = match parse_program(alloc, text) {
         Ok(program) => program,
         Err(ReadError::Memory) => return Err(Memory),
         Err(_) => return Ok(None),
     };
     match check(alloc, program) {
-        Ok(typed) => Ok(Some(typed)),
+        Ok(typed) => Ok(Some(Boxed::new(alloc, typed)?)),
         Err(TypeError::Memory) => Err(Memory),
         Err(_) => Ok(None),
     }

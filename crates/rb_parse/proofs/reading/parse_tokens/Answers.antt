@@ -9,7 +9,7 @@ pub place-requires-in-Err-TooNested-clause-within : goal.place-requires-in-Err-T
 place-requires-in-Err-TooNested-clause-within c = nested_within TheProgram c.args.source.now c.args.tokens.now c.in-Err-TooNested.left (rw c.in-Err-TooNested.field-0-is at c.in-Err-TooNested.ensures)
 
 pub returns-in-Ok : goal.returns-in-Ok
-returns-in-Ok c = record { read = told_ok TheProgram c.args.source.now c.args.tokens.now _ c.in-Ok.ensures }
+returns-in-Ok c = record { read = rw c.into_inner.ensures (told_ok TheProgram c.args.source.now c.args.tokens.now _ c.in-Ok.ensures) }
 
 pub returns-in-Err-Unexpected : goal.returns-in-Err-Unexpected
 returns-in-Err-Unexpected c = record { read = rw c.place.ensures (told_unexpected TheProgram c.args.source.now c.args.tokens.now c.in-Err-Unexpected.left (rw c.in-Err-Unexpected.field-0-is at c.in-Err-Unexpected.ensures)) }
