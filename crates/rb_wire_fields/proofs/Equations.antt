@@ -1,7 +1,6 @@
 -- What reading values and lists is, a step at a time.
-use Rattle.std.proofs.Common.{◌≡◌, ℕ, Bool, true, false, cond, List, [], ◌∷◌, ◌++◌, map, length, take, drop, None, Result, Ok, Err, refl, ap, sym, ◌∙◌}
+use Rattle.std.proofs.Common.{◌≡◌, ℕ, Bool, true, false, cond, List, [], ◌∷◌, ◌++◌, map, length, take, drop, None, Ok, Err, refl}
 use Rattle.std.specs.Prelude.{nat_lt}
-use Rattle.std.specs.Str.{is_utf8}
 use Rattle.std.proofs.lemmas.List.{map-append}
 use Rattle.rb_trees.specs.Limits.{longest_text}
 use Rattle.rb_trees.specs.declared.versions.Version.{Version}

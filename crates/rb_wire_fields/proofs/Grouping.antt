@@ -1,5 +1,5 @@
 -- Numbers in groups, a group at a time.
-use Rattle.std.proofs.Common.{◌≡◌, ◌+◌, ◌-◌, ◌*◌, ◌<◌, ◌≤◌, ℕ, zero, suc, List, [], ◌∷◌, Ok, Err, refl, ap, sym, ◌∙◌, arith, cond, nat_lt, true, false}
+use Rattle.std.proofs.Common.{◌≡◌, ◌-◌, ◌*◌, ◌<◌, ℕ, zero, suc, List, [], ◌∷◌, Ok, Err, refl, ap, arith, cond, nat_lt, true, false}
 use Rattle.std.proofs.lemmas.Grind.{common_steps}
 use Rattle.rb_meaning_bytes.specs.formats.Shorts.{read_groups, joined, limit}
 

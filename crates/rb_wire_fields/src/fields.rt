@@ -18,7 +18,7 @@ pub fn cut() -> Violation
     ensures { result ≡ record { number = 1; left = 0 } }
 {
     Violation {
-        number: TRUNCATED,
+        number: TRUNCATED as usize,
         left: 0,
     }
 }
@@ -29,7 +29,7 @@ pub fn refused(number: u8, bytes: &[u8]) -> Violation
     ensures { result ≡ record { number = number; left = length bytes.now } }
 {
     Violation {
-        number,
+        number: number as usize,
         left: bytes.len(),
     }
 }
@@ -40,7 +40,7 @@ pub fn bad_tag(rest: &[u8]) -> Violation
     ensures { result ≡ record { number = 2; left = length rest.now + 1 } }
 {
     Violation {
-        number: BAD_TAG,
+        number: BAD_TAG as usize,
         left: rest.len() + 1,
     }
 }

@@ -49,13 +49,31 @@ fn groups(last: u8, more: u32, bytes: &[u8]) -> Result<(u64, &[u8]), NoGroups>
     Ok((u64::from(*group - 128) + 128 * higher, rest))
 }
 
+/// The same, where one group is read at once.
+#[tactic(auto, using(crate::proofs::Grouping::reading))]
+#[inline(always)]
+fn number(last: u8, more: u32, bytes: &[u8]) -> Result<(u64, &[u8]), NoGroups>
+    requires some { 0 < last }
+    requires last { last ≤ 128 }
+    requires more { 0 < more }
+    requires bits { limit last more ≤ 2 ^ 64 }
+    ensures gives { Gives (λ x. (x.0, x.1.now)) is_cut result (read_groups last more bytes.now) }
+    ensures below { IfOk result (λ x. x.0 < limit last more) }
+{
+    match bytes {
+        [group, rest @ ..] if *group < 128 => Ok((u64::from(*group), rest)),
+        _ => groups(last, more, bytes),
+    }
+}
+
 /// A number of 32 bits in groups.
 #[tactic(auto, unfolding(rb_meaning_bytes::specs::formats::Reading::look))]
+#[inline(always)]
 pub fn short(bytes: &[u8]) -> Result<(u32, &[u8]), Violation>
     ensures { Gives (λ x. (x.0, x.1.now)) told result (look (Short any_number) bytes.now) }
 {
-    match groups(16, 4, bytes) {
-        Ok((number, rest)) => Ok((number as u32, rest)),
+    match number(16, 4, bytes) {
+        Ok((n, rest)) => Ok((n as u32, rest)),
         Err(NoGroups::Cut) => Err(cut()),
         Err(NoGroups::Wrong) => Err(refused(NOT_CANONICAL, bytes)),
     }
@@ -71,11 +89,12 @@ fn unfold(number: u64) -> i64
 
 /// A signed number of 64 bits in groups.
 #[tactic(auto, unfolding(rb_meaning_bytes::specs::formats::Reading::look))]
+#[inline(always)]
 pub fn zig(bytes: &[u8]) -> Result<(i64, &[u8]), Violation>
     ensures { Gives (λ x. (x.0, x.1.now)) told result (look Zig bytes.now) }
 {
-    match groups(2, 9, bytes) {
-        Ok((number, rest)) => Ok((unfold(number), rest)),
+    match number(2, 9, bytes) {
+        Ok((n, rest)) => Ok((unfold(n), rest)),
         Err(NoGroups::Cut) => Err(cut()),
         Err(NoGroups::Wrong) => Err(refused(NOT_CANONICAL, bytes)),
     }
@@ -86,7 +105,7 @@ pub fn zig(bytes: &[u8]) -> Result<(i64, &[u8]), Violation>
 pub fn brief(most: usize, bytes: &[u8]) -> Result<(&[u8], &[u8]), Violation>
     ensures { Gives (λ x. (x.0.now, x.1.now)) told result (look (Brief most (λ _. None)) bytes.now) }
 {
-    let (count, rest) = match groups(16, 4, bytes) {
+    let (count, rest) = match number(16, 4, bytes) {
         Ok(found) => found,
         Err(NoGroups::Cut) => return Err(cut()),
         Err(NoGroups::Wrong) => return Err(refused(NOT_CANONICAL, bytes)),

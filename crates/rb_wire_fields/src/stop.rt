@@ -3,9 +3,12 @@
 use rb_trees::Memory;
 
 /// The number of the first violation, and how many bytes are left at its place.
+///
+/// The number is a byte in a whole word. What a reader gives else has words in the same place, and what has a byte there is
+/// copied in parts.
 #[derive(Clone, Copy)]
 pub struct Violation {
-    pub number: u8,
+    pub number: usize,
     pub left: usize,
 }
 

@@ -66,7 +66,7 @@ pub fn decode_forest(alloc: Global, payload: &[u8]) -> Result<Node, ForestStop>
     match whole(alloc, payload) {
         Ok(root) => Ok(root),
         Err(Stop::Refused(violation)) => Err(ForestStop::Refused {
-            number: violation.number,
+            number: (violation.number % 256) as u8,
             at: (payload.len() - violation.left) as u64,
         }),
         Err(Stop::Memory) => Err(ForestStop::Memory),

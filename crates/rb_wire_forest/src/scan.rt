@@ -59,7 +59,7 @@ pub fn scan_forest(payload: &[u8]) -> Result<Forest<'_>, ForestRefusal>
     match pass_all(payload) {
         Ok(()) => Ok(Forest { payload }),
         Err(stop::Violation { number, left }) => Err(ForestRefusal {
-            number,
+            number: (number % 256) as u8,
             at: (payload.len() - left) as u64,
         }),
     }

@@ -94,7 +94,7 @@ fn decoded(alloc: Global, payload: &[u8]) -> Result<(Version, Script, Seq<Value>
         },
         Err(Stop::Refused(violation)) => Err(ScriptStop::Refused {
             version: version_of(payload),
-            number: violation.number,
+            number: (violation.number % 256) as u8,
             at: (payload.len() - violation.left) as u32,
         }),
         Err(Stop::Memory) => Err(ScriptStop::Memory),

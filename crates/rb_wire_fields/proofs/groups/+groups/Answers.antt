@@ -1,4 +1,4 @@
-use Rattle.std.proofs.Common.{arith, rules}
+use Rattle.std.proofs.Common.{arith}
 use Rattle.std.proofs.lemmas.Grind.{common_steps}
 use Rattle.rb_wire_fields.proofs.Grouping.{within_one}
 use Rattle.rb_wire_fields.proofs.groups.+groups.Goals as goal

@@ -18,10 +18,10 @@ pub returns-in-Ok-clause-only : goal.returns-in-Ok-clause-only
 returns-in-Ok-clause-only c meant m = only_read forest_message _ _ meant (λ i. Fits-lt-pow (c.type_inv.payload i)) c.in-Ok.ensures m
 
 pub overflow_sub-result : goal.overflow_sub-result
-overflow_sub-result c = left_within forest_message _ c.in-Err-Refused.violation.number c.in-Err-Refused.violation.left (λ i. Fits-lt-pow (c.type_inv.payload i)) (rw c.in-Err-Refused.field-0-is at c.in-Err-Refused.ensures)
+overflow_sub-result c = left_within forest_message _ _ c.in-Err-Refused.violation.left (λ i. Fits-lt-pow (c.type_inv.payload i)) (rw c.in-Err-Refused.field-0-is at c.in-Err-Refused.ensures)
 
 pub returns-in-Err-Refused-clause-told : goal.returns-in-Err-Refused-clause-told
-returns-in-Err-Refused-clause-told c = refused_means forest_message _ c.in-Err-Refused.violation.number c.in-Err-Refused.violation.left (λ i. Fits-lt-pow (c.type_inv.payload i)) (rw c.in-Err-Refused.field-0-is at c.in-Err-Refused.ensures)
+returns-in-Err-Refused-clause-told c = refused_means forest_message _ _ c.in-Err-Refused.violation.left (λ i. Fits-lt-pow (c.type_inv.payload i)) (rw c.in-Err-Refused.field-0-is at c.in-Err-Refused.ensures)
 
 pub returns-in-Err-Refused-clause-only : goal.returns-in-Err-Refused-clause-only
-returns-in-Err-Refused-clause-only c meant m = only_refused forest_message _ c.in-Err-Refused.violation.number c.in-Err-Refused.violation.left meant (λ i. Fits-lt-pow (c.type_inv.payload i)) (rw c.in-Err-Refused.field-0-is at c.in-Err-Refused.ensures) m
+returns-in-Err-Refused-clause-only c meant m = only_refused forest_message _ _ c.in-Err-Refused.violation.left meant (λ i. Fits-lt-pow (c.type_inv.payload i)) (rw c.in-Err-Refused.field-0-is at c.in-Err-Refused.ensures) m

@@ -15,10 +15,10 @@ unfolding root_of
 returns-in-Ok-clause-only c meant m = only_read forest_message _ _ meant (λ i. Fits-lt-pow (c.type_inv.payload i)) (root_read _ (read_so _ c.in-Ok.ensures)) m
 
 pub overflow_sub-result : goal.overflow_sub-result
-overflow_sub-result c = left_within forest_message _ c.in-Err.field-0.number c.in-Err.field-0.left (λ i. Fits-lt-pow (c.type_inv.payload i)) (refused_so _ _ c.in-Err.ensures)
+overflow_sub-result c = left_within forest_message _ _ c.in-Err.field-0.left (λ i. Fits-lt-pow (c.type_inv.payload i)) (refused_so _ _ c.in-Err.ensures)
 
 pub returns-in-Err-clause-told : goal.returns-in-Err-clause-told
-returns-in-Err-clause-told c = refused_means forest_message _ c.in-Err.field-0.number c.in-Err.field-0.left (λ i. Fits-lt-pow (c.type_inv.payload i)) (refused_so _ _ c.in-Err.ensures)
+returns-in-Err-clause-told c = refused_means forest_message _ _ c.in-Err.field-0.left (λ i. Fits-lt-pow (c.type_inv.payload i)) (refused_so _ _ c.in-Err.ensures)
 
 pub returns-in-Err-clause-only : goal.returns-in-Err-clause-only
-returns-in-Err-clause-only c meant m = only_refused forest_message _ c.in-Err.field-0.number c.in-Err.field-0.left meant (λ i. Fits-lt-pow (c.type_inv.payload i)) (refused_so _ _ c.in-Err.ensures) m
+returns-in-Err-clause-only c meant m = only_refused forest_message _ _ c.in-Err.field-0.left meant (λ i. Fits-lt-pow (c.type_inv.payload i)) (refused_so _ _ c.in-Err.ensures) m
