@@ -1,9 +1,19 @@
-// What came out, beside what is wanted.
+// What came out, beside what is wanted; and what is said where something goes otherwise.
 
-use rb_hub::{End, Event, Out};
+use rb_hub::{End, Event, HubRefusal, Out};
 use rb_trees::{Memory, Seq};
 use std::alloc::Global;
-use std::test::Fail;
+
+/// Nothing where all goes as is wanted; or else what goes otherwise.
+pub type Told = Result<(), &'static str>;
+
+/// What is said where memory is wanting.
+pub const NO_MEMORY: &str = "out of memory";
+
+/// Says what goes otherwise, unless all goes as is wanted.
+pub fn told(is_wanted: bool, otherwise: &'static str) -> Told {
+    if is_wanted { Ok(()) } else { Err(otherwise) }
+}
 
 /// An event, as a table has it.
 #[derive(Clone, Copy)]
@@ -11,6 +21,15 @@ pub enum Come {
     Open,
     Piece(u32, &'static [u8]),
     Close(u32),
+}
+
+/// What an event comes to.
+#[derive(Clone, Copy)]
+pub enum Step {
+    Done,
+    Refused(HubRefusal),
+    /// One of its requests stops whoever answers.
+    Stopped,
 }
 
 /// What is wanted to come out.
@@ -30,15 +49,6 @@ pub fn event_of(alloc: Global, come: Come) -> Result<Event, Memory> {
     }
 }
 
-/// Fails where something else is found than is wanted, and says what was.
-pub fn expect(is_wanted: bool, found: &str) -> Result<(), Fail> {
-    if is_wanted {
-        Ok(())
-    } else {
-        Err(Fail::new(found))
-    }
-}
-
 /// Whether this came out.
 fn is_wanted(out: &Out, want: Want) -> bool {
     match (out, want) {
@@ -53,11 +63,11 @@ fn is_wanted(out: &Out, want: Want) -> bool {
     }
 }
 
-/// Fails where something else came out, or more or less.
-pub fn expect_outs(outs: &[Out], wants: &[Want]) -> Result<(), Fail> {
-    expect(outs.len() == wants.len(), "more or less came out")?;
+/// Says so where something else came out, or more or less.
+pub fn outs_told(outs: &[Out], wants: &[Want]) -> Told {
+    let mut are_wanted = outs.len() == wants.len();
     for (out, want) in outs.iter().zip(wants) {
-        expect(is_wanted(out, *want), "something else came out")?;
+        are_wanted &= is_wanted(out, *want);
     }
-    Ok(())
+    told(are_wanted, "something else came out")
 }

@@ -2,16 +2,16 @@
 
 ghost use Rattle.rb_session.specs.Answering.{IsTypedHost};
 
-use crate::expected::{Come, Want, event_of, expect, expect_outs};
-use crate::hosts::number_host;
+use crate::events::events_told;
+use crate::expected::{Come, Step, Told, Want, told};
+use crate::hosts::{NUMBER, host_of};
 use crate::streams::{BOTH, EMPTY_REPLY};
 use bytes::BytesMut;
 use rb_exec::Host;
-use rb_hub::{Hub, HubRefusal, HubStop, Out};
+use rb_hub::{Hub, HubRefusal};
 use rb_session::{Answers, answer};
-use rb_trees::{Memory, Seq};
+use rb_trees::Memory;
 use std::alloc::Global;
-use std::test::Fail;
 
 /// A host that answers so many requests more.
 #[derive(Drop)]
@@ -67,56 +67,34 @@ impl Answers for Limited {
     }
 }
 
-/// Fails where an event isn't stopped by the limit.
-fn expect_limit(
-    alloc: Global,
-    hub: &mut Hub<Limited>,
-    come: Come,
-    outs: &mut Seq<Out>,
-) -> Result<(), Fail> {
-    match hub.step(alloc, event_of(alloc, come)?, outs) {
-        Err(HubStop::Answers(Limit::Reached)) => Ok(()),
-        Err(HubStop::Answers(Limit::Memory) | HubStop::Memory) => Err(Memory.into()),
-        _ => Err(Fail::new("no stop by the limit")),
-    }
-}
+/// Events, of which the second has two requests, where one is answered.
+const EVENTS: &[(Come, Step)] = &[
+    (Come::Open, Step::Done),
+    (Come::Piece(0, BOTH), Step::Stopped),
+    (Come::Close(0), OVER),
+    (Come::Open, OVER),
+    (Come::Piece(7, b""), OVER),
+];
 
-/// Fails where an event isn't refused by a hub that is over.
-fn expect_over(
-    alloc: Global,
-    hub: &mut Hub<Limited>,
-    come: Come,
-    outs: &mut Seq<Out>,
-) -> Result<(), Fail> {
-    match hub.step(alloc, event_of(alloc, come)?, outs) {
-        Err(HubStop::Refused(refusal)) => expect(refusal == HubRefusal::Over, "another refusal"),
-        _ => Err(Fail::new("the hub isn't over")),
-    }
-}
+/// The hub is over.
+const OVER: Step = Step::Refused(HubRefusal::Over);
 
-/// Sends two requests where one is answered, and then more events.
-fn stop_within(alloc: Global, hub: &mut Hub<Limited>, outs: &mut Seq<Out>) -> Result<(), Fail> {
-    match hub.step(alloc, event_of(alloc, Come::Open)?, outs) {
-        Ok(()) => {}
-        Err(HubStop::Refused(_)) => return Err(Fail::new("no session is opened")),
-        Err(_) => return Err(Memory.into()),
-    }
-    expect_limit(alloc, hub, Come::Piece(0, BOTH), outs)?;
-    expect_over(alloc, hub, Come::Close(0), outs)?;
-    expect_over(alloc, hub, Come::Open, outs)?;
-    expect_over(alloc, hub, Come::Piece(7, b""), outs)
+/// What comes out of them.
+const OUTS: &[Want] = &[Want::Opened(0), Want::Reply(0, EMPTY_REPLY)];
+
+/// Says what goes otherwise in a hub where one request is answered.
+fn hub_told(alloc: Global, hub: &mut Hub<Limited>) -> Told {
+    let stopped = events_told(alloc, hub, EVENTS, OUTS);
+    stopped.and(told(hub.answers().left == 0, "more may be answered"))
 }
 
 #[test]
-fn a_hub_is_over_where_a_request_stopped_whoever_answers(rt: HostRuntime) -> Result<(), Fail> {
-    let alloc = rt.alloc();
-    let mut outs = Seq::new(alloc);
-    let host = number_host(alloc)?;
-    let mut hub = Hub::make(alloc, Limited { host, left: 1 });
-    stop_within(alloc, &mut hub, &mut outs)?;
-    expect_outs(
-        outs.as_slice(),
-        &[Want::Opened(0), Want::Reply(0, EMPTY_REPLY)],
-    )?;
-    expect(hub.answers().left == 0, "more may be answered")
+fn a_hub_is_over_where_a_request_stopped_whoever_answers(rt: HostRuntime) -> Told {
+    match host_of(rt.alloc(), NUMBER) {
+        Ok(host) => {
+            let mut hub = Hub::make(rt.alloc(), Limited { host, left: 1 });
+            hub_told(rt.alloc(), &mut hub)
+        }
+        Err(why) => Err(why),
+    }
 }

@@ -1,13 +1,12 @@
 // Links to the host of a hub that others use too.
 
-use crate::expected::{Come, event_of, expect};
-use crate::hosts::number_host;
+use crate::expected::{Come, NO_MEMORY, Told, event_of, told};
+use crate::hosts::{NUMBER, host_of};
 use crate::streams::EMPTY;
 use rb_base::Link;
 use rb_hub::{Event, Hub, HubLink, HubLinkStop};
 use rb_trees::{Memory, Seq};
 use std::alloc::Global;
-use std::test::Fail;
 
 /// The payload of a request without steps, which is the payload of the reply to it too.
 const PAYLOAD: &[u8] = b"\x01\x00\x00\x00\x00\x00";
@@ -32,45 +31,45 @@ fn others_of(alloc: Global) -> Result<Seq<Seq<Event>>, Memory> {
     Ok(others)
 }
 
-/// Fails where an exchange has another reply.
-fn expect_reply(link: &mut HubLink) -> Result<(), Fail> {
+/// Says what goes otherwise in an exchange.
+fn reply_told<L: Link>(link: &mut L) -> Told {
     match link.exchange(PAYLOAD) {
-        Ok(reply) => expect(
+        Ok(reply) => told(
             reply.kind == 2 && reply.payload.as_slice() == PAYLOAD,
             "another reply",
         ),
-        Err(_) => Err(Memory.into()),
+        Err(_) => Err(NO_MEMORY),
     }
 }
 
-/// Why there is no link.
-fn fail_of(stop: &HubLinkStop) -> Fail {
-    match stop {
-        HubLinkStop::Refused(..) => Fail::new("no session is opened"),
-        HubLinkStop::Memory => Memory.into(),
+/// Says so where two exchanges over a link don't find its own session as it was, and that of others.
+fn link_told(link: &mut HubLink) -> Told {
+    let replied = reply_told(link).and(reply_told(link));
+    let are_kept = link.pairs().len() == 2 && link.hub().opened() == 2;
+    replied.and(told(are_kept, "another number of exchanges or of sessions"))
+}
+
+/// The same of a link that was made.
+fn made_told(made: Result<HubLink, HubLinkStop>) -> Told {
+    match made {
+        Ok(mut link) => link_told(&mut link),
+        Err(HubLinkStop::Refused(..)) => Err("no session is opened"),
+        Err(HubLinkStop::Memory) => Err(NO_MEMORY),
     }
 }
 
-/// A link through a new hub, with what others do.
-fn link_of(alloc: Global, others: Seq<Seq<Event>>) -> Result<HubLink, Fail> {
-    let hub = Hub::make(alloc, number_host(alloc)?);
-    match HubLink::make(alloc, hub, others) {
-        Ok(link) => Ok(link),
-        Err(stop) => Err(fail_of(&stop)),
+/// The same of a link through a new hub, with what others do.
+fn others_told(alloc: Global, others: Seq<Seq<Event>>) -> Told {
+    match host_of(alloc, NUMBER) {
+        Ok(host) => made_told(HubLink::make(alloc, Hub::make(alloc, host), others)),
+        Err(why) => Err(why),
     }
-}
-
-/// Fails where two exchanges over a link don't find its own session as it was, and that of others.
-fn expect_exchanges(link: &mut HubLink) -> Result<(), Fail> {
-    expect_reply(link)?;
-    expect_reply(link)?;
-    expect(link.pairs().len() == 2, "another number of exchanges")?;
-    expect(link.hub().opened() == 2, "another number of sessions")
 }
 
 #[test]
-fn a_link_skips_what_others_do_with_its_own_session(rt: HostRuntime) -> Result<(), Fail> {
-    let others = others_of(rt.alloc())?;
-    let mut link = link_of(rt.alloc(), others)?;
-    expect_exchanges(&mut link)
+fn a_link_skips_what_others_do_with_its_own_session(rt: HostRuntime) -> Told {
+    match others_of(rt.alloc()) {
+        Ok(others) => others_told(rt.alloc(), others),
+        Err(_) => Err(NO_MEMORY),
+    }
 }

@@ -1,26 +1,30 @@
 // Two open sessions whose pieces and ends come in every order, beside the history that is told of them.
 
-use crate::expected::{Come, Want, event_of, expect_outs};
-use crate::hosts::counter_host;
-use crate::rows::open_all;
+use crate::events::{events_told, opens_told};
+use crate::expected::{Come, NO_MEMORY, Step, Told, Want};
+use crate::hosts::{COUNTER, host_of};
 use rb_exec::Host;
-use rb_hub::{End, Hub, play_one};
+use rb_hub::{End, Hub, HubRefusal};
 use rb_trees::{Memory, Seq};
 use std::alloc::Global;
-use std::test::Fail;
 
-/// A turn of a session: the piece that comes, or None where it is closed; how many requests have their last byte in it; and after
-/// how many requests and how the session ends by it, if it does.
+/// A turn of a session: the piece that comes, or None where it is closed; what that comes to; how many requests have their last
+/// byte in it; and after how many requests and how the session ends by it, if it does.
 struct Turn {
     piece: Option<&'static [u8]>,
+    step: Step,
     requests: usize,
     end: Option<(u64, End)>,
 }
+
+/// The session has ended.
+const ENDED: Step = Step::Refused(HubRefusal::UnknownSession);
 
 /// Two requests become whole at once, each within its frame.
 const WHOLE: &[Turn] = &[
     Turn {
         piece: Some(b"RB\x01\x00\x00"),
+        step: Step::Done,
         requests: 0,
         end: None,
     },
@@ -28,16 +32,19 @@ const WHOLE: &[Turn] = &[
         piece: Some(
             b"\x00\x00\x00\x00\x00\x0f\x02\x01\x01n\x00\x01\x11\x00\x00\x26\x00\x01\x00\x23\x00RB\x01\x00\x00\x00\x00\x00\x00\x00\x0f\x02\x01\x01n\x00\x01\x11\x00\x00\x26\x00\x01\x00\x23\x00RB\x01\x00\x00\x00\x00\x00\x00\x00\x0f\x02\x01\x01n",
         ),
+        step: Step::Done,
         requests: 2,
         end: None,
     },
     Turn {
         piece: Some(b"\x00\x01\x11\x00\x00\x26\x00\x01\x00\x23\x00"),
+        step: Step::Done,
         requests: 1,
         end: None,
     },
     Turn {
         piece: None,
+        step: Step::Done,
         requests: 0,
         end: Some((3, End::Whole)),
     },
@@ -49,21 +56,25 @@ const CUT: &[Turn] = &[
         piece: Some(
             b"RB\x01\x00\x00\x00\x00\x00\x00\x00\x0f\x02\x01\x01n\x00\x01\x11\x00\x00\x26\x00\x01\x00\x23\x00RB\x01\x00",
         ),
+        step: Step::Done,
         requests: 1,
         end: None,
     },
     Turn {
         piece: Some(b"\x00\x00\x00\x00\x00\x00\x0f\x02\x01\x01n\x00\x01\x11"),
+        step: Step::Done,
         requests: 0,
         end: None,
     },
     Turn {
         piece: Some(b"\x00\x00\x26\x00\x01\x00\x23\x00R"),
+        step: Step::Done,
         requests: 1,
         end: None,
     },
     Turn {
         piece: None,
+        step: Step::Done,
         requests: 0,
         end: Some((2, End::Cut(53))),
     },
@@ -73,6 +84,7 @@ const CUT: &[Turn] = &[
 const BROKEN: &[Turn] = &[
     Turn {
         piece: Some(b"R"),
+        step: Step::Done,
         requests: 0,
         end: None,
     },
@@ -80,6 +92,7 @@ const BROKEN: &[Turn] = &[
         piece: Some(
             b"B\x01\x00\x00\x00\x00\x00\x00\x00\x0f\x02\x01\x01n\x00\x01\x11\x00\x00\x26\x00\x01\x00\x23\x00RC",
         ),
+        step: Step::Done,
         requests: 1,
         end: Some((1, End::BadFrame(27))),
     },
@@ -87,11 +100,13 @@ const BROKEN: &[Turn] = &[
         piece: Some(
             b"RB\x01\x00\x00\x00\x00\x00\x00\x00\x0f\x02\x01\x01n\x00\x01\x11\x00\x00\x26\x00\x01\x00\x23\x00",
         ),
+        step: ENDED,
         requests: 0,
         end: None,
     },
     Turn {
         piece: None,
+        step: ENDED,
         requests: 0,
         end: None,
     },
@@ -139,62 +154,53 @@ fn wants_of(alloc: Global, number: u32, turn: &Turn, before: usize) -> Result<Se
     Ok(wants)
 }
 
-/// Fails where something else comes out by a turn of a session than is wanted behind so many requests of the history.
-fn expect_turn(
-    alloc: Global,
-    hub: &mut Hub<Host>,
-    number: u32,
-    turn: &Turn,
-    before: usize,
-) -> Result<(), Fail> {
-    let event = event_of(alloc, come_of(number, turn))?;
-    let wants = wants_of(alloc, number, turn, before)?;
-    let mut outs = Seq::new(alloc);
-    match play_one(alloc, hub, event, &mut outs) {
-        Ok(_) => expect_outs(outs.as_slice(), wants.as_slice()),
-        Err(_) => Err(Memory.into()),
+/// Says so where something else comes out by a turn of a session than is wanted behind so many requests of the history.
+fn turn_told(alloc: Global, hub: &mut Hub<Host>, number: u32, turn: &Turn, before: usize) -> Told {
+    match wants_of(alloc, number, turn, before) {
+        Ok(wants) => {
+            let events = &[(come_of(number, turn), turn.step)];
+            events_told(alloc, hub, events, wants.as_slice())
+        }
+        Err(_) => Err(NO_MEMORY),
     }
 }
 
-/// Opens two sessions, and fails where something else comes out by their turns in an order than the history says.
-fn expect_turns(
-    alloc: Global,
-    hub: &mut Hub<Host>,
-    turns: [&[Turn]; 2],
-    order: u32,
-) -> Result<(), Fail> {
-    open_all(alloc, hub, 2)?;
+/// Opens two sessions, and says so where something else comes out by their turns in an order than the history says.
+fn turns_told(alloc: Global, hub: &mut Hub<Host>, turns: &[&[Turn]; 2], order: u32) -> Told {
+    let mut told = opens_told(alloc, hub, 2);
     let mut before = 0usize;
     for place in 0..TURNS {
         let (number, turn) = turn_at(order, place);
         let talk = if number == 0 { turns[0] } else { turns[1] };
         let Some(turn) = talk.get(turn as usize) else {
-            return Err(Fail::new("more turns than are told"));
+            return Err("more turns than are told");
         };
-        expect_turn(alloc, hub, number, turn, before)?;
+        told = told.and(turn_told(alloc, hub, number, turn, before));
         before = before.wrapping_add(turn.requests);
     }
-    Ok(())
+    told
 }
 
-/// Fails where something else comes out by the turns of two sessions of a new hub than the history says.
-fn expect_order(alloc: Global, turns: [&[Turn]; 2], order: u32) -> Result<(), Fail> {
-    let mut hub = Hub::make(alloc, counter_host(alloc)?);
-    expect_turns(alloc, &mut hub, turns, order)
-}
-
-/// Fails where something else comes out by the turns of two sessions in one of their orders.
-fn expect_orders(alloc: Global, turns: [&[Turn]; 2]) -> Result<(), Fail> {
-    for order in 0u32..1 << TURNS {
-        if order.count_ones() == TURNS / 2 {
-            expect_order(alloc, turns, order)?;
-        }
+/// The same in a new hub.
+fn order_told(alloc: Global, turns: &[&[Turn]; 2], order: u32) -> Told {
+    match host_of(alloc, COUNTER) {
+        Ok(host) => turns_told(alloc, &mut Hub::make(alloc, host), turns, order),
+        Err(why) => Err(why),
     }
-    Ok(())
 }
+
+/// Pairs of sessions.
+const PAIRS: &[[&[Turn]; 2]] = &[[WHOLE, CUT], [BROKEN, WHOLE]];
 
 #[test]
-fn each_order_of_two_sessions_has_its_history(rt: HostRuntime) -> Result<(), Fail> {
-    expect_orders(rt.alloc(), [WHOLE, CUT])?;
-    expect_orders(rt.alloc(), [BROKEN, WHOLE])
+fn each_order_of_two_sessions_has_its_history(rt: HostRuntime) -> Told {
+    let mut told = Ok(());
+    for turns in PAIRS {
+        for order in 0u32..1 << TURNS {
+            if order.count_ones() == TURNS / 2 {
+                told = told.and(order_told(rt.alloc(), turns, order));
+            }
+        }
+    }
+    told
 }

@@ -1,15 +1,13 @@
 // Sessions of a hub that are served over ends in memory.
 
-use crate::expected::expect;
-use crate::hosts::number_host;
+use crate::expected::{NO_MEMORY, Told, told};
+use crate::hosts::{NUMBER, host_of};
 use crate::streams::{BOTH, BOTH_REPLIES, BROKEN, EMPTY, EMPTY_REPLY, ONE_AND_PART};
 use rb_base::{MemorySink, MemorySource};
-use rb_exec::Host;
 use rb_hub::{Hub, HubServeStop, serve_hub};
 use rb_session::Served;
 use rb_trees::{Memory, Seq};
-use std::alloc::{AllocError, Global};
-use std::test::Fail;
+use std::alloc::Global;
 
 /// A session over a source of a stream, which gives so many bytes at most at once and of which these reads fail, and a sink of which
 /// these writes fail; and what is wanted of it: how it ends, and what is written.
@@ -85,36 +83,60 @@ const CASES: &[Case] = &[
     },
 ];
 
-/// How a session ended, in words.
-fn told(
-    alloc: Global,
-    answer: &Result<Served, HubServeStop<Memory>>,
-) -> Result<String, AllocError> {
-    match answer {
+/// Says what goes otherwise in how a session ended.
+fn end_told(alloc: Global, answer: &Result<Served, HubServeStop<Memory>>, want: &str) -> Told {
+    let text = match answer {
         Ok(served) => format!(in alloc; "{} requests", served.requests),
         Err(HubServeStop::Serve(stop)) => format!(in alloc; "{stop}"),
-        Err(HubServeStop::Answers(Memory)) => format!(in alloc; "out of memory"),
+        Err(HubServeStop::Answers(Memory)) => return Err(NO_MEMORY),
+    };
+    match text {
+        Ok(text) => told(text.as_bytes() == want.as_bytes(), "another end"),
+        Err(_) => Err(NO_MEMORY),
     }
 }
 
-/// Serves a case's session in a new hub, and fails where it goes otherwise.
-fn expect_served(alloc: Global, case: &Case) -> Result<(), Fail> {
-    let mut hub: Hub<Host> = Hub::make(alloc, number_host(alloc)?);
+/// Says what goes otherwise where a session is served in a new hub.
+fn served_told(
+    alloc: Global,
+    source: &mut MemorySource,
+    sink: &mut MemorySink,
+    want: &str,
+) -> Told {
+    match host_of(alloc, NUMBER) {
+        Ok(host) => {
+            let mut hub = Hub::make(alloc, host);
+            end_told(alloc, &serve_hub(alloc, &mut hub, source, sink), want)
+        }
+        Err(why) => Err(why),
+    }
+}
+
+/// The ends of a case.
+fn ends_of(alloc: Global, case: &Case) -> Result<(MemorySource, MemorySink), Memory> {
     let stream = Seq::from_slice(alloc, case.stream)?;
     let reads = Seq::from_slice(alloc, case.reads)?;
-    let mut source = MemorySource::make(stream, reads, case.most.max(1));
-    let mut sink = MemorySink::make(alloc, Seq::from_slice(alloc, case.writes)?, 100);
-    let answer = serve_hub(alloc, &mut hub, &mut source, &mut sink);
-    let answer = told(alloc, &answer)?;
-    expect(answer.as_bytes() == case.answer.as_bytes(), &answer)?;
-    expect(sink.written() == case.written, "other bytes are written")
+    let writes = Seq::from_slice(alloc, case.writes)?;
+    let source = MemorySource::make(stream, reads, case.most.max(1));
+    Ok((source, MemorySink::make(alloc, writes, 100)))
+}
+
+/// Says what goes otherwise in a case.
+fn case_told(alloc: Global, case: &Case) -> Told {
+    match ends_of(alloc, case) {
+        Ok((mut source, mut sink)) => {
+            let served = served_told(alloc, &mut source, &mut sink, case.answer);
+            served.and(told(sink.written() == case.written, "other bytes are written"))
+        }
+        Err(_) => Err(NO_MEMORY),
+    }
 }
 
 #[test]
-fn sessions_of_a_hub_end_as_the_cases_say(rt: HostRuntime) -> Result<(), Fail> {
-    let alloc = rt.alloc();
+fn sessions_of_a_hub_end_as_the_cases_say(rt: HostRuntime) -> Told {
+    let mut told = Ok(());
     for case in CASES {
-        expect_served(alloc, case)?;
+        told = told.and(case_told(rt.alloc(), case));
     }
-    Ok(())
+    told
 }

@@ -1,11 +1,11 @@
 // Tests of the client's run, over links that reply as they like.
 
-mod answers;
+pub mod answers;
 mod carried;
 pub mod changes;
 mod honest;
-mod hosts;
+pub mod hosts;
 mod misfits;
 mod others;
 mod replies;
-mod runs;
+pub mod runs;

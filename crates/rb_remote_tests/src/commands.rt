@@ -2,6 +2,8 @@
 
 mod calls;
 mod commands;
+mod desks;
+mod dialled;
 mod events;
 mod failures;
 mod hostile;
@@ -15,4 +17,5 @@ mod pairs;
 mod payloads;
 mod replies;
 mod servers;
+mod sessions;
 mod texts;

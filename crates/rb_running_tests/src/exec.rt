@@ -6,6 +6,7 @@ mod fuel;
 mod kinds;
 mod operators;
 mod over;
+mod scripts;
 mod shown;
 mod steps;
 mod words;

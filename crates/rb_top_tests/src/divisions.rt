@@ -1,49 +1,16 @@
-// How the batches of a program are divided: what `split p` shows, and what is refused.
-use crate::answers::{INTERFACES, answer, checked, expect, files_of};
-use std::alloc::Global;
-use std::test::Fail;
+// How the batches of a program are divided: what `split p` shows.
 
-/// Interfaces with results of each kind.
-const WIDE: &str = "\
-interface File { fun name(): Text; fun size(): Int; fun ok(): Bool; fun sizes(): Rows<Int>; fun tags(): Rows<Text>; fun flags(): Rows<Bool>; fun next(): File; fun set(n: Int, b: Bool, t: Text); }\n\
-interface Dir { fun files(): Rows<File>; fun file(i: Int): File; fun best(f: File): File; }\n";
-
-/// What `split p` answers on a text behind interfaces.
-fn viewed(alloc: Global, interfaces: &str, program: &str) -> Result<String, Fail> {
-    let text = format!(in alloc; "{interfaces}{program}")?;
-    answer(
-        alloc,
-        "split p",
-        files_of(alloc, Some(text.as_str()), None)?,
-    )
-}
-
-/// Fails unless `split p` answers on each program, behind interfaces, what stands beside it.
-pub fn views_are(alloc: Global, interfaces: &str, rows: &[(&str, &str)]) -> Result<(), Fail> {
-    for (program, wanted) in rows {
-        let answered = viewed(alloc, interfaces, program)?;
-        expect(alloc, program, answered.as_str(), wanted)?;
-    }
-    Ok(())
-}
-
-#[test]
-fn kept_values_are_bound(rt: HostRuntime) -> Result<(), Fail> {
-    views_are(
-        rt.alloc(),
-        INTERFACES,
-        &[
-            (
-                r#"main { batch (Dir r) { } }"#,
-                r#"0 batch 3:8
+/// Batches behind the interfaces, and loops over constant lists among them.
+pub static ROWS: &str = r#"main { batch (Dir r) { } }
+----
+0 batch 3:8
 inputs
 script
 remainder
-"#,
-            ),
-            (
-                r#"main { batch (Dir r) { val s = r.file(0).size(); r.file(1).grow(s + 1); } }"#,
-                r#"0 batch 3:8
+====
+main { batch (Dir r) { val s = r.file(0).size(); r.file(1).grow(s + 1); } }
+----
+0 batch 3:8
 inputs
 script
   0 let v0 keep = root.file(0).size()
@@ -51,21 +18,10 @@ script
 remainder
   val s = <0>;
   pass <1>;
-"#,
-            ),
-        ],
-    )
-}
-
-#[test]
-fn values_without_a_call_stand_on_both_sides(rt: HostRuntime) -> Result<(), Fail> {
-    views_are(
-        rt.alloc(),
-        INTERFACES,
-        &[
-            (
-                r#"main { val a = 1; val b = 0; batch (Dir r) { r.file(0).grow(1); val k = a / b; r.file(1).grow(k); } }"#,
-                r#"0 batch 3:30
+====
+main { val a = 1; val b = 0; batch (Dir r) { r.file(0).grow(1); val k = a / b; r.file(1).grow(k); } }
+----
+0 batch 3:30
 inputs a b
 script
   0 do root.file(0).grow(1)
@@ -75,11 +31,10 @@ remainder
   pass <0>;
   val k = a / b; // <1>
   pass <2>;
-"#,
-            ),
-            (
-                r#"main { batch (Dir r) { val f = r.file(0); val g = f; g.grow(1); val n = 7; f.grow(n); } }"#,
-                r#"0 batch 3:8
+====
+main { batch (Dir r) { val f = r.file(0); val g = f; g.grow(1); val n = 7; f.grow(n); } }
+----
+0 batch 3:8
 inputs
 script
   0 let v0 = root.file(0)
@@ -93,20 +48,10 @@ remainder
   pass <2>;
   val n = 7; // <3>
   pass <4>;
-"#,
-            ),
-        ],
-    )
-}
-
-#[test]
-fn inputs_stand_in_order_of_first_use(rt: HostRuntime) -> Result<(), Fail> {
-    views_are(
-        rt.alloc(),
-        INTERFACES,
-        &[(
-            r#"main { val unused = 3; val n = 1; val t = "x"; batch (Dir r) { r.file(n).rename(t + "y"); r.file(n).grow(n); } }"#,
-            r#"0 batch 3:48
+====
+main { val unused = 3; val n = 1; val t = "x"; batch (Dir r) { r.file(n).rename(t + "y"); r.file(n).grow(n); } }
+----
+0 batch 3:48
 inputs n t
 script
   0 do root.file(in0).rename(add(in1, "y"))
@@ -114,19 +59,10 @@ script
 remainder
   pass <0>;
   pass <1>;
-"#,
-        )],
-    )
-}
-
-#[test]
-fn loops_nest(rt: HostRuntime) -> Result<(), Fail> {
-    views_are(
-        rt.alloc(),
-        INTERFACES,
-        &[(
-            r#"main { batch (Dir r) { for (a in r.files()) { for (b in r.files()) { var n = 0; for (c in r.files()) { n = n + a.size() + b.size() + c.size(); } print(n); } } } }"#,
-            r#"0 batch 3:8
+====
+main { batch (Dir r) { for (a in r.files()) { for (b in r.files()) { var n = 0; for (c in r.files()) { n = n + a.size() + b.size() + c.size(); } print(n); } } } }
+----
+0 batch 3:8
 inputs
 script
   0 each v0 in root.files()
@@ -145,19 +81,10 @@ remainder
       print(n);
     }
   }
-"#,
-        )],
-    )
-}
-
-#[test]
-fn branches_stand_in_loops(rt: HostRuntime) -> Result<(), Fail> {
-    views_are(
-        rt.alloc(),
-        INTERFACES,
-        &[(
-            r#"main { batch (Dir r) { for (f in r.files()) { if (f.size() > 100) { print(f.name()); f.grow(5); } else { f.grow(1); print("small"); } } } }"#,
-            r#"0 batch 3:8
+====
+main { batch (Dir r) { for (f in r.files()) { if (f.size() > 100) { print(f.name()); f.grow(5); } else { f.grow(1); print("small"); } } } }
+----
+0 batch 3:8
 inputs
 script
   0 each v0 in root.files()
@@ -176,19 +103,10 @@ remainder
       print("small");
     }
   }
-"#,
-        )],
-    )
-}
-
-#[test]
-fn an_empty_branch_may_stand_first(rt: HostRuntime) -> Result<(), Fail> {
-    views_are(
-        rt.alloc(),
-        INTERFACES,
-        &[(
-            r#"main { batch (Dir r) { if (r.file(0).size() > 1) { } else { r.burn(2); } if (r.file(0).size() > 1) { print("big"); } } }"#,
-            r#"0 batch 3:8
+====
+main { batch (Dir r) { if (r.file(0).size() > 1) { } else { r.burn(2); } if (r.file(0).size() > 1) { print("big"); } } }
+----
+0 batch 3:8
 inputs
 script
   0 if gt(root.file(0).size(), 1)
@@ -203,19 +121,60 @@ remainder
   if (<2>) {
     print("big");
   }
-"#,
-        )],
-    )
-}
+====
+main { val k = 4; val by = List<Int>(0, 1); val to = List<Text>("x"); batch (Dir r) { for (n in by) { val f = r.file(n); for (t in to) { f.rename(t + str(k)); for (m in by) { print(m); } } if (f.size() > n) { print(n); f.grow(k); } } } }
+----
+0 batch 3:71
+inputs by to k
+script
+  0 over v0 in in0
+    1 let v1 = root.file(v0)
+    2 over v2 in in1
+      3 do v1.rename(add(v2, str(in2)))
+    4 if gt(v1.size(), v0)
+      5 do v1.grow(in2)
+remainder
+  for n in by <0> {
+    pass <1>;
+    for t in to <2> {
+      pass <3>;
+      for (m in by) {
+        print(m);
+      }
+    }
+    if <4> {
+      print(n);
+      pass <5>;
+    }
+  }
+====
+main { val by = List<Int>(0, 1); batch (Dir r) { for (f in r.files()) { for (n in by) { print(f.size() + n); } } for (n in by) { val m = n * 2; r.file(0).grow(m); } } }
+----
+0 batch 3:34
+inputs by
+script
+  0 each v0 in root.files()
+    1 over v1 in in0
+      2 keep add(v0.size(), v1)
+  3 over v2 in in0
+    4 let v3 = mul(v2, 2)
+    5 do root.file(0).grow(v3)
+remainder
+  for f in <0> {
+    for n in by <1> {
+      print(<2>);
+    }
+  }
+  for n in by <3> {
+    val m = n * 2; // <4>
+    pass <5>;
+  }"#;
 
-#[test]
-fn primitive_rows_are_kept(rt: HostRuntime) -> Result<(), Fail> {
-    views_are(
-        rt.alloc(),
-        WIDE,
-        &[(
-            r#"main { batch (Dir r) { for (n in r.file(0).sizes()) { print(n); } for (t in r.file(0).tags()) { print(t); } for (b in r.file(0).flags()) { if (b) { r.file(0).set(1, b, "q"); } } } }"#,
-            r#"0 batch 3:8
+/// Batches behind the interfaces with results of each kind.
+pub static WIDE: &str =
+    r#"main { batch (Dir r) { for (n in r.file(0).sizes()) { print(n); } for (t in r.file(0).tags()) { print(t); } for (b in r.file(0).flags()) { if (b) { r.file(0).set(1, b, "q"); } } } }
+----
+0 batch 3:8
 inputs
 script
   0 each v0 keep in root.file(0).sizes()
@@ -235,19 +194,10 @@ remainder
       pass <4>;
     }
   }
-"#,
-        )],
-    )
-}
-
-#[test]
-fn operators_and_literals_have_their_words(rt: HostRuntime) -> Result<(), Fail> {
-    views_are(
-        rt.alloc(),
-        WIDE,
-        &[(
-            r#"main { val n = 2; val b = true; val t = "a\n\"\\"; batch (Dir r) { print(!r.file(0).ok()); print(-r.file(n).size()); print(len(r.file(0).name())); print(str(r.file(0).size())); r.file(1 + 2 - 3 * 4).set(5 / n % 6, n == 1 && t != "u" || b, t); print(r.file(0).size() < 1 == (r.file(0).size() <= 2)); print(r.file(0).size() > 1 == (r.file(0).size() >= 2)); r.file(-9223372036854775808).set(-1, false, ""); } }"#,
-            r#"0 batch 3:52
+====
+main { val n = 2; val b = true; val t = "a\n\"\\"; batch (Dir r) { print(!r.file(0).ok()); print(-r.file(n).size()); print(len(r.file(0).name())); print(str(r.file(0).size())); r.file(1 + 2 - 3 * 4).set(5 / n % 6, n == 1 && t != "u" || b, t); print(r.file(0).size() < 1 == (r.file(0).size() <= 2)); print(r.file(0).size() > 1 == (r.file(0).size() >= 2)); r.file(-9223372036854775808).set(-1, false, ""); } }
+----
+0 batch 3:52
 inputs n t b
 script
   0 keep not(root.file(0).ok())
@@ -267,20 +217,10 @@ remainder
   print(<5>);
   print(<6>);
   pass <7>;
-"#,
-        )],
-    )
-}
-
-#[test]
-fn local_statements_keep_what_they_take(rt: HostRuntime) -> Result<(), Fail> {
-    views_are(
-        rt.alloc(),
-        WIDE,
-        &[
-            (
-                r#"main { batch (Dir r) { print(List<Int>(r.file(0).size(), 2, r.file(1).size())[r.file(2).size()]); var s = 0; s = s + r.file(0).size() * 2; throw r.file(0).name() + "!"; } }"#,
-                r#"0 batch 3:8
+====
+main { batch (Dir r) { print(List<Int>(r.file(0).size(), 2, r.file(1).size())[r.file(2).size()]); var s = 0; s = s + r.file(0).size() * 2; throw r.file(0).name() + "!"; } }
+----
+0 batch 3:8
 inputs
 script
   0 keep root.file(0).size()
@@ -293,11 +233,10 @@ remainder
   var s = 0;
   s = s + <3>;
   throw <4>;
-"#,
-            ),
-            (
-                r#"class Box { v: Int; fun add(n: Int): Int { return this.v + n; } } main { val o = new Box(1); batch (Dir r) { print(o.add(r.file(0).size())); o.v = r.file(0).size() + o.v; print(new Box(r.file(0).size()).v); } }"#,
-                r#"0 batch 3:94
+====
+class Box { v: Int; fun add(n: Int): Int { return this.v + n; } } main { val o = new Box(1); batch (Dir r) { print(o.add(r.file(0).size())); o.v = r.file(0).size() + o.v; print(new Box(r.file(0).size()).v); } }
+----
+0 batch 3:94
 inputs
 script
   0 keep root.file(0).size()
@@ -307,20 +246,10 @@ remainder
   print(o.add(<0>));
   o.v = <1> + o.v;
   print(new Box(<2>).v);
-"#,
-            ),
-        ],
-    )
-}
-
-#[test]
-fn local_blocks_stay_as_they_are(rt: HostRuntime) -> Result<(), Fail> {
-    views_are(
-        rt.alloc(),
-        WIDE,
-        &[(
-            r#"main { batch (Dir r) { var n = r.file(0).size(); while (n > 0) { n = n - 1; } for (x in List<Int>(r.file(0).size())) { print(x); } try { print(1 / n); } catch (e) { print(e); } val q = n + 1; print(q); } }"#,
-            r#"0 batch 3:8
+====
+main { batch (Dir r) { var n = r.file(0).size(); while (n > 0) { n = n - 1; } for (x in List<Int>(r.file(0).size())) { print(x); } try { print(1 / n); } catch (e) { print(e); } val q = n + 1; print(q); } }
+----
+0 batch 3:8
 inputs
 script
   0 keep root.file(0).size()
@@ -340,19 +269,10 @@ remainder
   }
   val q = n + 1;
   print(q);
-"#,
-        )],
-    )
-}
-
-#[test]
-fn calls_nest(rt: HostRuntime) -> Result<(), Fail> {
-    views_are(
-        rt.alloc(),
-        WIDE,
-        &[(
-            r#"main { batch (Dir r) { r.best(r.file(0)).set(r.file(1).size(), true, r.file(2).name()); r.file(0).next().next(); print(r.best(r.file(0).next()).name()); } }"#,
-            r#"0 batch 3:8
+====
+main { batch (Dir r) { r.best(r.file(0)).set(r.file(1).size(), true, r.file(2).name()); r.file(0).next().next(); print(r.best(r.file(0).next()).name()); } }
+----
+0 batch 3:8
 inputs
 script
   0 do root.best(root.file(0)).set(root.file(1).size(), true, root.file(2).name())
@@ -362,20 +282,10 @@ remainder
   pass <0>;
   pass <1>;
   print(<2>);
-"#,
-        )],
-    )
-}
-
-#[test]
-fn batches_stand_in_source_order(rt: HostRuntime) -> Result<(), Fail> {
-    views_are(
-        rt.alloc(),
-        WIDE,
-        &[
-            (
-                r#"main { val n = 1; batch (Dir r) { print(r.file(n).size()); } if (true) { batch (Dir q) { val m = n * 2; print(q.file(m).size()); } } }"#,
-                r#"0 batch 3:19
+====
+main { val n = 1; batch (Dir r) { print(r.file(n).size()); } if (true) { batch (Dir q) { val m = n * 2; print(q.file(m).size()); } } }
+----
+0 batch 3:19
 inputs n
 script
   0 keep root.file(in0).size()
@@ -389,99 +299,16 @@ script
 remainder
   val m = n * 2; // <0>
   print(<1>);
-"#,
-            ),
-            (
-                r#"class Job { n: Int; remote fun go(k: Int) { batch (Dir d) { print(d.file(k).size() + this.n); } } } main { new Job(1).go(2); }"#,
-                r#"0 batch 3:45
+====
+class Job { n: Int; remote fun go(k: Int) { batch (Dir d) { print(d.file(k).size() + this.n); } } } main { new Job(1).go(2); }
+----
+0 batch 3:45
 inputs k
 script
   0 keep root.file(in0).size()
 remainder
   print(<0> + this.n);
-"#,
-            ),
-            (r#"main { print(1); }"#, r#"0 "#),
-        ],
-    )
-}
-
-/// What `check p` answers on a batch of so many calls, each with a hundred literals: 1,025 bytes of code a call.
-fn wide_calls(alloc: Global, count: u32) -> Result<String, Fail> {
-    let mut text = String::new(alloc);
-    text.push_str("interface I { fun b(a0: Int")?;
-    for n in 1..100 {
-        let param = format!(in alloc; ", a{n}: Int")?;
-        text.push_str(param.as_str())?;
-    }
-    text.push_str("); }\nmain { batch (I r) { ")?;
-    for _call in 0..count {
-        text.push_str("r.b(1")?;
-        for _literal in 1..100 {
-            text.push_str(",1")?;
-        }
-        text.push_str(");")?;
-    }
-    text.push_str(" } }")?;
-    checked(alloc, text.as_bytes())
-}
-
-/// Fails unless `check p` answers on a batch of each number of such calls the line beside it.
-fn wide_calls_are(alloc: Global, rows: &[(u32, &str)]) -> Result<(), Fail> {
-    for (count, wanted) in rows {
-        expect(alloc, wanted, wide_calls(alloc, *count)?.as_str(), wanted)?;
-    }
-    Ok(())
-}
-
-#[test]
-fn a_script_has_at_most_four_megabytes(rt: HostRuntime) -> Result<(), Fail> {
-    wide_calls_are(
-        rt.alloc(),
-        &[
-            (4092, "0 accepted\n"),
-            (4093, "5 refused 9 ScriptTooLarge 2:8 4195329\n"),
-        ],
-    )
-}
-
-/// What `check p` answers where a batch sends so many constant variables, each in a call of its own, behind a text.
-fn many_inputs(alloc: Global, first: &str, count: u32) -> Result<String, Fail> {
-    let mut text = format!(in alloc; "{INTERFACES}main {{ {first}")?;
-    for n in 0..count {
-        let constant = format!(in alloc; "val c{n} = {n}; ")?;
-        text.push_str(constant.as_str())?;
-    }
-    text.push_str("\nbatch (Dir r) { ")?;
-    for n in 0..count {
-        let call = format!(in alloc; "r.burn(c{n}); ")?;
-        text.push_str(call.as_str())?;
-    }
-    text.push_str("} }")?;
-    checked(alloc, text.as_bytes())
-}
-
-/// Fails unless `check p` answers on a batch that sends each number of variables, behind a text, the line beside them.
-fn many_inputs_are(alloc: Global, rows: &[(&str, u32, &str)]) -> Result<(), Fail> {
-    for (first, count, wanted) in rows {
-        let answered = many_inputs(alloc, first, *count)?;
-        expect(alloc, wanted, answered.as_str(), wanted)?;
-    }
-    Ok(())
-}
-
-#[test]
-fn a_batch_has_at_most_255_inputs(rt: HostRuntime) -> Result<(), Fail> {
-    many_inputs_are(
-        rt.alloc(),
-        &[
-            ("", 255, "0 accepted\n"),
-            ("", 256, "5 refused 8 TooManyInputs 4:1 256\n"),
-            (
-                "batch (Dir q) { q.burn(1); } ",
-                257,
-                "5 refused 8 TooManyInputs 4:1 257\n",
-            ),
-        ],
-    )
-}
+====
+main { print(1); }
+----
+0 (no line feed)"#;

@@ -14,8 +14,6 @@ mod carried_loops;
 #[cfg(test)]
 mod checks;
 #[cfg(test)]
-mod directories;
-#[cfg(test)]
 mod divisions;
 #[cfg(test)]
 mod faults;
@@ -26,9 +24,19 @@ mod local_faults;
 #[cfg(test)]
 mod local_runs;
 #[cfg(test)]
+mod outputs;
+#[cfg(test)]
+mod places;
+#[cfg(test)]
+mod rows;
+#[cfg(test)]
 mod runs;
 #[cfg(test)]
 mod service_classes;
+#[cfg(test)]
+mod tests;
+#[cfg(test)]
+mod texts;
 #[cfg(test)]
 mod trials;
 #[cfg(test)]

@@ -1,75 +1,16 @@
-// What `trial N` answers, and the texts that it runs.
-use crate::answers::{answer, expect, files_of, shown, words_of};
-use bytes::BytesMut;
-use rb_base::{Files, FilesStop, MemoryFiles, MemorySink, SteadyListen};
+// The texts that trials run, and how.
+
+use crate::answers::{answer, words_of};
+use crate::places::{INTERFACES, Place};
+use crate::rows::{expect, is_answered};
+use rb_base::{MemoryFiles, MemorySink, SteadyListen};
 use rb_disk::NullStores;
 use rb_session::{AnyLink, FailingLink, MemoryDial};
 use rb_top::{top, trial_program, trial_service};
-use rb_trees::Seq;
+use rb_trees::{Memory, Seq, Word};
 use std::alloc::Global;
+use std::str;
 use std::test::Fail;
-
-/// Fails unless each of the words answers, without files, what stands beside them.
-fn trials_are(alloc: Global, rows: &[(&str, &str)]) -> Result<(), Fail> {
-    for (words, wanted) in rows {
-        let answered = answer(alloc, words, files_of(alloc, None, None)?)?;
-        expect(alloc, words, answered.as_str(), wanted)?;
-    }
-    Ok(())
-}
-
-#[test]
-fn a_trial_prints_two_lines_and_how_many_objects_there_are(rt: HostRuntime) -> Result<(), Fail> {
-    trials_are(
-        rt.alloc(),
-        &[
-            ("trial 1", "0 617\n0\ndone\nexchanges 1\nobjects 2\n"),
-            ("trial 00001", "0 617\n0\ndone\nexchanges 1\nobjects 2\n"),
-            ("trial 3", "0 1702\n0\ndone\nexchanges 1\nobjects 4\n"),
-            ("trial 8", "0 4212\n1\ndone\nexchanges 1\nobjects 9\n"),
-            (
-                "trial 1000",
-                "0 499500\n99\ndone\nexchanges 1\nobjects 1001\n",
-            ),
-        ],
-    )
-}
-
-#[test]
-fn a_trial_may_have_ten_thousand_files(rt: HostRuntime) -> Result<(), Fail> {
-    trials_are(
-        rt.alloc(),
-        &[(
-            "trial 10000",
-            "0 4995000\n990\ndone\nexchanges 1\nobjects 10001\n",
-        )],
-    )
-}
-
-/// Words that begin as a trial and are none.
-const OTHER_WORDS: &[&str] = &[
-    "trial",
-    "trial 0",
-    "trial 00000",
-    "trial 10001",
-    "trial 99999",
-    "trial 012345",
-    "trial -1",
-    "trial 1x",
-    "trial x",
-    "trial 1 2",
-    "trial 1 2 3",
-    "trial p s",
-    "Trial 1",
-];
-
-#[test]
-fn a_trial_has_one_number_of_one_to_ten_thousand(rt: HostRuntime) -> Result<(), Fail> {
-    for words in OTHER_WORDS {
-        trials_are(rt.alloc(), &[(*words, "2 words not understood\n")])?;
-    }
-    Ok(())
-}
 
 /// The program of each trial.
 const PROGRAM: &str =
@@ -101,24 +42,35 @@ object 3: File { name = "f3"; size = 851; }
 root 0;
 "#;
 
-#[test]
-fn the_texts_of_a_trial_of_three_files_are_these(rt: HostRuntime) -> Result<(), Fail> {
-    let alloc = rt.alloc();
-    expect(alloc, "the program", trial_program(), PROGRAM)?;
-    let service = trial_service(alloc, 3)?;
-    let text = str::from_utf8(service.as_slice())?;
-    expect(alloc, "the service", text, SERVICE)
-}
+/// The program of a trial is run on a service.
+static TRIAL: Place = Place {
+    words: "both p s",
+    interfaces: "",
+    program: PROGRAM,
+    service: "@",
+};
 
-#[test]
-fn both_runs_these_texts_and_prints_the_table(rt: HostRuntime) -> Result<(), Fail> {
-    let answered = shown(rt.alloc(), Some(PROGRAM), Some(SERVICE))?;
-    let wanted = "0 1702\n0\ndone\nexchanges 1\n\
+/// What is printed of the trial of three files, with the table.
+const THREE: &str = "0 1702\n0\ndone\nexchanges 1\n\
 object 0: Dir { list = [#1, #2, #3]; }\n\
 object 1: File { name = \"f1\"; size = 617; }\n\
 object 2: File { name = \"f2\"; size = 234; }\n\
-object 3: File { name = \"f3\"; size = 851; }\n";
-    expect(rt.alloc(), "both p s", answered.as_str(), wanted)
+object 3: File { name = \"f3\"; size = 851; }";
+
+#[test]
+fn the_texts_of_a_trial_of_three_files_are_these(rt: HostRuntime) -> Result<(), Fail> {
+    let alloc = rt.alloc();
+    expect(
+        "the program",
+        trial_program().as_bytes(),
+        PROGRAM.as_bytes(),
+    )?;
+    expect(
+        "the service",
+        trial_service(alloc, 3)?.as_slice(),
+        SERVICE.as_bytes(),
+    )?;
+    is_answered(alloc, &TRIAL, "both p s", SERVICE, THREE, "these texts")
 }
 
 #[test]
@@ -130,55 +82,87 @@ fn the_texts_of_the_largest_trial_are_short_enough(rt: HostRuntime) -> Result<()
     Err(Fail::new(format_args!("{} bytes", service.len())))
 }
 
-/// Carries out `trial 3` over these files and this Dial.
-fn try_three(
-    alloc: Global,
-    files: &mut MemoryFiles,
-    dial: &mut MemoryDial<FailingLink>,
-) -> Result<(), Fail> {
-    let words = words_of(alloc, "trial 3")?;
+/// The exit status of `trial 3` over this Dial, without a file.
+fn try_three(alloc: Global, words: &[String], dial: &mut MemoryDial<FailingLink>) -> u8 {
+    let mut files = MemoryFiles::make(alloc, Seq::new(alloc));
     let mut out = MemorySink::make(alloc, Seq::new(alloc), usize::MAX);
     let mut listen = SteadyListen::make(alloc, Seq::new(alloc));
     let status = top(
         alloc,
-        words.as_slice(),
-        files,
+        words,
+        &mut files,
         &mut out,
         dial,
         &mut listen,
         &mut NullStores,
     );
-    let code = status.code();
-    if code == 0 {
-        return Ok(());
+    status.code()
+}
+
+/// Whether `trial 3` ends well over a Dial, and one link came back, over which one exchange was made.
+fn is_tried(alloc: Global, words: &[String], dial: &mut MemoryDial<FailingLink>) -> bool {
+    let code = try_three(alloc, words, dial);
+    match dial.came_back() {
+        [AnyLink::Around(link)] => code == 0 && link.pairs().len() == 1,
+        _ => false,
     }
-    Err(Fail::new(format_args!("status {code}")))
+}
+
+/// The same over a Dial whose dials would fail.
+fn is_tried_alone(alloc: Global) -> Result<bool, Memory> {
+    let words = words_of(alloc, "trial 3")?;
+    let mut dial = MemoryDial::make(alloc, Seq::from_slice(alloc, &[1, 2, 3])?);
+    Ok(is_tried(alloc, words.as_slice(), &mut dial))
 }
 
 #[test]
 fn a_trial_exchanges_once_and_dials_nothing(rt: HostRuntime) -> Result<(), Fail> {
-    let alloc = rt.alloc();
-    let mut files = files_of(alloc, None, None)?;
-    // Each dial would fail.
-    let mut dial = MemoryDial::make(alloc, Seq::from_slice(alloc, &[1, 2, 3])?);
-    try_three(alloc, &mut files, &mut dial)?;
-    match dial.came_back() {
-        [AnyLink::Around(link)] if link.pairs().len() == 1 => Ok(()),
-        other => Err(Fail::new(format_args!("{} links came back", other.len()))),
+    assert!(rt; is_tried_alone(rt.alloc())?);
+    Ok(())
+}
+
+/// Behind the interfaces: shows the first large files of a directory, renames each, and shows the sum of all sizes.
+const RENAMES: &str =
+    "main { var sum = 0; var shown = 0; batch (Dir r) { for (f in r.files()) { val s = f.size(); sum = sum + s; if (s > 900) { val n = f.name(); f.rename(\"big-\" + n); if (shown < 4) { print(n); shown = shown + 1; } } } } print(sum); }";
+
+/// The files of a thousand files, and that program.
+fn add_thousand(alloc: Global, files: &mut MemoryFiles) -> Result<(), Memory> {
+    let service = trial_service(alloc, 1_000)?;
+    let program = format!(in alloc; "{INTERFACES}{RENAMES}")?;
+    files.add("p", program.as_bytes())?;
+    files.add("s", service.as_slice())
+}
+
+/// Adds what words answer on them.
+fn answer_renames(alloc: Global, words: &str, into: &mut Word) -> Result<(), Memory> {
+    let mut files = MemoryFiles::make(alloc, Seq::new(alloc));
+    add_thousand(alloc, &mut files)?;
+    answer(alloc, words, &mut files, into)
+}
+
+/// Fails unless a text is what the program shows of the thousand files.
+fn names_are_shown(text: &str) -> Result<(), Fail> {
+    let lines = "0 f8\nf21\nf34\nf42\n499500\ndone\nexchanges 1\nobject 0: Dir { list = [#1, #2, ";
+    if !text.starts_with(lines) {
+        return Err(Fail::new("other lines are shown"));
     }
+    if !text.contains("\nobject 8: File { name = \"big-f8\"; size = 936; }\n") {
+        return Err(Fail::new("file 8 is another"));
+    }
+    let count = text.split("big-").count();
+    if count != 100 {
+        return Err(Fail::new(format_args!("{count} pieces in place of 100")));
+    }
+    Ok(())
 }
 
 #[test]
-fn a_trial_reads_no_file(rt: HostRuntime) -> Result<(), Fail> {
+fn a_large_directory_is_walked(rt: HostRuntime) -> Result<(), Fail> {
     let alloc = rt.alloc();
-    // The first read fails, so that it shows whether one was made.
-    let mut files = MemoryFiles::make(alloc, Seq::from_slice(alloc, &[1])?);
-    files.add("p", PROGRAM.as_bytes())?;
-    let mut dial = MemoryDial::make(alloc, Seq::new(alloc));
-    try_three(alloc, &mut files, &mut dial)?;
-    let mut text = BytesMut::new(alloc);
-    match files.read("p", 99, &mut text) {
-        Err(FilesStop::Failed) => Ok(()),
-        _ => Err(Fail::new("a read was made")),
-    }
+    let mut shown = Seq::new(alloc);
+    answer_renames(alloc, "both p s", &mut shown)?;
+    names_are_shown(str::from_utf8(shown.as_slice()).unwrap_or("no UTF-8"))?;
+    let mut unsplit = Seq::new(alloc);
+    answer_renames(alloc, "unsplit p s", &mut unsplit)?;
+    expect(RENAMES, unsplit.as_slice(), shown.as_slice())
 }

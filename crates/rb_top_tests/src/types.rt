@@ -1,28 +1,8 @@
-// Which programs are typed, and which violation is the first, by rows of texts.
-use crate::answers::{checked, expect};
-use std::alloc::Global;
-use std::test::Fail;
+// Which programs are typed, and which violation is the first.
 
-/// Fails unless `check` answers on the text of each row what stands before its bar.
-fn rows_are_answered(alloc: Global, rows: &str) -> Result<(), Fail> {
-    for row in rows.split_terminator('\n') {
-        match row.split_once('|') {
-            Some((wanted, text)) => row_is_answered(alloc, text, wanted)?,
-            None => return Err(Fail::from("a row lacks its bar")),
-        }
-    }
-    Ok(())
-}
-
-/// Fails unless `check` answers on a text what is wanted.
-fn row_is_answered(alloc: Global, text: &str, wanted: &str) -> Result<(), Fail> {
-    let answer = checked(alloc, text.as_bytes())?;
-    expect(alloc, text, answer.as_str().trim_end(), wanted)
-}
-
-/// Names that are taken, and names that differ enough.
-const NAMES_ARE_DECLARED_ONCE: &str =
-    r#"4 types 2 NameTaken at 1:27|interface D { } interface D { } main { }
+/// What `check` answers on texts: names that are taken, unknown or out of scope, types at their places, expressions and
+/// operands of their types, counts, assignments, returns, and which of two violations counts.
+pub static LINES: &str = r#"4 types 2 NameTaken at 1:27|interface D { } interface D { } main { }
 4 types 2 NameTaken at 1:23|interface D { } class D { } main { }
 4 types 2 NameTaken at 1:19|class C { } class C { } main { }
 4 types 2 NameTaken at 1:28|interface D { fun n(); fun n(); } main { }
@@ -40,15 +20,7 @@ const NAMES_ARE_DECLARED_ONCE: &str =
 0 accepted|class C { C: Int; fun C(C: Int) { } } main { val C = new C(1); }
 0 accepted|class C { v: Int; fun v(): Int { return this.v; } } main { }
 0 accepted|interface D { fun n(); } interface E { fun n(); } main { }
-"#;
-
-#[test]
-fn names_are_declared_once(rt: HostRuntime) -> Result<(), Fail> {
-    rows_are_answered(rt.alloc(), NAMES_ARE_DECLARED_ONCE)
-}
-
-/// Names that nothing is known of, and names that are declared later.
-const NAMES_ARE_KNOWN: &str = r#"4 types 1 UnknownName at 1:14|main { print(x); }
+4 types 1 UnknownName at 1:14|main { print(x); }
 4 types 1 UnknownName at 1:14|main { print(this.v); }
 4 types 1 UnknownName at 1:8|main { x = 1; }
 4 types 1 UnknownName at 1:41|class C { v: Int; fun f(): Int { return v; } } main { }
@@ -65,16 +37,7 @@ const NAMES_ARE_KNOWN: &str = r#"4 types 1 UnknownName at 1:14|main { print(x); 
 4 types 1 UnknownName at 1:20|class C { } main { batch (C r) { } }
 0 accepted|class C { fun f(b: B): C { return b.c; } } class B { c: C; } main { }
 0 accepted|interface D { fun n(e: E): Rows<D>; } interface E { } main { }
-"#;
-
-#[test]
-fn names_are_known(rt: HostRuntime) -> Result<(), Fail> {
-    rows_are_answered(rt.alloc(), NAMES_ARE_KNOWN)
-}
-
-/// Types at places where they may not stand, and types that may.
-const TYPES_STAND_AT_THEIR_PLACES: &str =
-    r#"4 types 7 TypeNotHere at 1:24|interface D { fun n(a: C); } class C { } main { }
+4 types 7 TypeNotHere at 1:24|interface D { fun n(a: C); } class C { } main { }
 4 types 7 TypeNotHere at 1:24|interface D { fun n(a: Unit); } main { }
 4 types 7 TypeNotHere at 1:24|interface D { fun n(a: Rows<Int>); } main { }
 4 types 7 TypeNotHere at 1:24|interface D { fun n(): List<Int>; } main { }
@@ -95,16 +58,7 @@ const TYPES_STAND_AT_THEIR_PLACES: &str =
 0 accepted|class C { fun f(): Unit { } } main { }
 0 accepted|main: Int { return 1; }
 0 accepted|main: Bool { return !false; }
-"#;
-
-#[test]
-fn types_stand_at_their_places(rt: HostRuntime) -> Result<(), Fail> {
-    rows_are_answered(rt.alloc(), TYPES_STAND_AT_THEIR_PLACES)
-}
-
-/// Expressions of a type that isn't wanted where they stand, and expressions of the type wanted.
-const EXPRESSIONS_HAVE_THE_TYPES_OF_THEIR_PLACES: &str =
-    r#"4 types 3 WrongType at 1:57|interface D { fun n(); } main { batch (D r) { val a = r.n(); } }
+4 types 3 WrongType at 1:57|interface D { fun n(); } main { batch (D r) { val a = r.n(); } }
 4 types 3 WrongType at 1:57|interface D { fun n(); } main { batch (D r) { var a = r.n(); } }
 4 types 3 WrongType at 1:14|main { print(List<Int>()); }
 4 types 3 WrongType at 1:26|class C { } main { print(new C()); }
@@ -129,15 +83,7 @@ const EXPRESSIONS_HAVE_THE_TYPES_OF_THEIR_PLACES: &str =
 5 refused 4 Escapes 1:64|interface D { fun n(): Rows<D>; } main { batch (D r) { print(r.n()); print(r); for (x in r.n()) { print(x); } } }
 0 accepted|class C { v: Text; } main { val c = new C("a"); c.v = c.v + "b"; throw c.v; }
 0 accepted|main: Text { return "a"; }
-"#;
-
-#[test]
-fn expressions_have_the_types_of_their_places(rt: HostRuntime) -> Result<(), Fail> {
-    rows_are_answered(rt.alloc(), EXPRESSIONS_HAVE_THE_TYPES_OF_THEIR_PLACES)
-}
-
-/// Operands of a type that isn't wanted, and operands of the type wanted.
-const OPERANDS_HAVE_THEIR_TYPES: &str = r#"4 types 3 WrongType at 1:20|main { val a = 1 + true; }
+4 types 3 WrongType at 1:20|main { val a = 1 + true; }
 4 types 3 WrongType at 1:16|main { val a = true + 1; }
 4 types 3 WrongType at 1:22|main { val a = "a" + 1; }
 4 types 3 WrongType at 1:30|main { val a = List<Int>() + List<Text>(); }
@@ -160,16 +106,7 @@ const OPERANDS_HAVE_THEIR_TYPES: &str = r#"4 types 3 WrongType at 1:20|main { va
 4 types 3 WrongType at 1:20|main { val a = str("a"); }
 0 accepted|main { val a = List<Int>(1) + List<Int>(2); print(a[0] + len(a) * len("b")); }
 0 accepted|main { print(str(1) + str(true) == "1true" && !(1 < 2) || "a" != "b"); }
-"#;
-
-#[test]
-fn operands_have_their_types(rt: HostRuntime) -> Result<(), Fail> {
-    rows_are_answered(rt.alloc(), OPERANDS_HAVE_THEIR_TYPES)
-}
-
-/// Counts of arguments, assignments, returns, and what may be remote.
-const CALLS_ASSIGNMENTS_AND_RETURNS_ARE_JUDGED: &str =
-    r#"4 types 4 WrongCount at 1:36|class B { v: Int; } main { val b = new B(); }
+4 types 4 WrongCount at 1:36|class B { v: Int; } main { val b = new B(); }
 4 types 4 WrongCount at 1:36|class B { v: Int; } main { val b = new B(1, 2); }
 4 types 4 WrongCount at 1:26|class C { fun f() { this.f(1); } } main { }
 4 types 4 WrongCount at 1:66|interface D { fun n(a: Int): Int; } main { batch (D r) { print(r.n()); } }
@@ -194,16 +131,7 @@ const CALLS_ASSIGNMENTS_AND_RETURNS_ARE_JUDGED: &str =
 0 accepted|class C { fun f(): Int { return this.g(); } fun g(): Int { return 1; } } main { }
 4 types 3 WrongType at 1:38|class C { fun f(): Int { return this.g(); } fun g(): Text { return "a"; } } main { }
 0 accepted|class C { fun f(): B { return new B(); } } class B { } main { new C().f(); }
-"#;
-
-#[test]
-fn calls_assignments_and_returns_are_judged(rt: HostRuntime) -> Result<(), Fail> {
-    rows_are_answered(rt.alloc(), CALLS_ASSIGNMENTS_AND_RETURNS_ARE_JUDGED)
-}
-
-/// Names behind the block that they were declared in.
-const SCOPES_END_WITH_THEIR_BLOCKS: &str =
-    r#"0 accepted|main { if (true) { val a = 1; } else { val a = true; } val a = "t"; print(a + "u"); }
+0 accepted|main { if (true) { val a = 1; } else { val a = true; } val a = "t"; print(a + "u"); }
 4 types 1 UnknownName at 1:46|main { if (true) { val a = 1; } else { print(a); } }
 4 types 1 UnknownName at 1:42|main { while (true) { val a = 1; } print(a); }
 0 accepted|main { for (a in List<Int>()) { print(a + 1); } for (a in List<Text>()) { print(a + "b"); } }
@@ -223,16 +151,7 @@ const SCOPES_END_WITH_THEIR_BLOCKS: &str =
 4 types 1 UnknownName at 1:16|main { val a = a; }
 4 types 1 UnknownName at 1:45|main: Int { if (true) { val a = 1; } return a; }
 0 accepted|main: Int { val a = 1; return a; }
-"#;
-
-#[test]
-fn scopes_end_with_their_blocks(rt: HostRuntime) -> Result<(), Fail> {
-    rows_are_answered(rt.alloc(), SCOPES_END_WITH_THEIR_BLOCKS)
-}
-
-/// Nodes with two violations.
-const THE_FIRST_VIOLATION_OF_A_NODE_COUNTS: &str =
-    r#"4 types 2 NameTaken at 1:25|class C { fun f(a: Int, a: E) { } } main { }
+4 types 2 NameTaken at 1:25|class C { fun f(a: Int, a: E) { } } main { }
 4 types 1 UnknownName at 1:20|class C { fun f(a: E, a: Int) { } } main { }
 4 types 1 UnknownName at 1:19|class C { v: Rows<E>; } main { }
 4 types 7 TypeNotHere at 1:14|class C { v: Rows<Unit>; } main { }
@@ -254,16 +173,7 @@ const THE_FIRST_VIOLATION_OF_A_NODE_COUNTS: &str =
 4 types 2 NameTaken at 1:19|main { val r = 1; batch (D r) { } }
 4 types 1 UnknownName at 1:21|class C { fun f() { batch (D r) { } } } main { }
 4 types 4 WrongCount at 1:45|class C { remote fun f() { } fun g() { this.f(1); } } main { }
-"#;
-
-#[test]
-fn the_first_violation_of_a_node_counts(rt: HostRuntime) -> Result<(), Fail> {
-    rows_are_answered(rt.alloc(), THE_FIRST_VIOLATION_OF_A_NODE_COUNTS)
-}
-
-/// Texts with two violations.
-const THE_FIRST_VIOLATION_OF_A_TEXT_COUNTS: &str =
-    r#"4 types 1 UnknownName at 1:14|main { print(x); print(1 + true); }
+4 types 1 UnknownName at 1:14|main { print(x); print(1 + true); }
 4 types 3 WrongType at 1:18|main { print(1 + true); print(x); }
 4 types 3 WrongType at 1:12|main { if (1) { print(x); } }
 4 types 1 UnknownName at 1:26|main { if (true) { print(x); } else { y = 1; } }
@@ -285,10 +195,4 @@ const THE_FIRST_VIOLATION_OF_A_TEXT_COUNTS: &str =
 4 types 1 UnknownName at 1:7|main: E { print(x); }
 4 types 7 TypeNotHere at 1:7|main: Unit { print(x); }
 4 types 1 UnknownName at 1:19|main: Int { print(x); }
-4 types 1 UnknownName at 1:19|main: Int { print(x); return true; }
-"#;
-
-#[test]
-fn the_first_violation_of_a_text_counts(rt: HostRuntime) -> Result<(), Fail> {
-    rows_are_answered(rt.alloc(), THE_FIRST_VIOLATION_OF_A_TEXT_COUNTS)
-}
+4 types 1 UnknownName at 1:19|main: Int { print(x); return true; }"#;

@@ -2,6 +2,9 @@
 
 ghost use Rattle.std.specs.Prelude.{◌<◌};
 
+use crate::client::hosts::host_of;
+use rb_changes::are_bounded;
+use rb_session::MeddledLink;
 use rb_trees::{Change, Seq, Shared, Value};
 use std::alloc::Global;
 use std::test::Fail;
@@ -17,42 +20,48 @@ pub enum Given<'a> {
 /// A change: an object, a field and its new value.
 pub type Row<'a> = (u32, &'a str, Given<'a>);
 
-fn value_of(alloc: Global, given: Given<'_>) -> Result<Value, Fail> {
-    match given {
-        Given::Int(number) => Ok(Value::Int(number)),
-        Given::Bool(truth) => Ok(Value::Bool(truth)),
-        Given::Text(text) => {
-            let word = Seq::from_slice(alloc, text.as_bytes())?;
-            Ok(Value::Text(Shared::new(alloc, word)?))
-        }
-    }
-}
-
+/// The change of a row.
 fn change_of(alloc: Global, row: Row<'_>) -> Result<Change, Fail> {
     let (object, field, given) = row;
+    let field = Seq::from_slice(alloc, field.as_bytes())?;
+    let value = match given {
+        Given::Int(number) => Value::Int(number),
+        Given::Bool(truth) => Value::Bool(truth),
+        Given::Text(text) => {
+            let word = Seq::from_slice(alloc, text.as_bytes())?;
+            Value::Text(Shared::new(alloc, word)?)
+        }
+    };
     Ok(Change {
         object,
-        field: Seq::from_slice(alloc, field.as_bytes())?,
-        value: value_of(alloc, given)?,
+        field,
+        value,
     })
-}
-
-/// The changes of these rows.
-fn list_of(alloc: Global, rows: &[Row<'_>]) -> Result<Seq<Change>, Fail> {
-    let mut list = Seq::new(alloc);
-    for row in rows {
-        list.push(change_of(alloc, *row)?)?;
-    }
-    Ok(list)
 }
 
 /// The lists of changes of these lists of rows.
 pub fn lists_of(alloc: Global, rows: &[&[Row<'_>]]) -> Result<Seq<Seq<Change>>, Fail> {
     let mut lists = Seq::new(alloc);
-    for list in rows {
-        lists.push(list_of(alloc, list)?)?;
+    for rows in rows {
+        let mut list = Seq::new(alloc);
+        for row in *rows {
+            list.push(change_of(alloc, *row)?)?;
+        }
+        lists.push(list)?;
     }
     Ok(lists)
+}
+
+/// A link to a server of a service's text, at which others make these changes.
+pub fn meddled_link(
+    alloc: Global,
+    text: &str,
+    others: Seq<Seq<Change>>,
+) -> Result<MeddledLink, Fail> {
+    if are_bounded(others.as_slice()) {
+        return Ok(MeddledLink::make(alloc, host_of(alloc, text)?, others));
+    }
+    Err(Fail::new("a value is too long"))
 }
 
 /// Numbers by chance, from a seed.
@@ -76,7 +85,7 @@ impl Chance {
 }
 
 /// A change by chance. Some are of no such object or field, and some of another kind than the field's.
-fn change_by_chance(alloc: Global, chance: &mut Chance) -> Result<Change, Fail> {
+fn row_by_chance(chance: &mut Chance) -> Row<'static> {
     let object = chance.below(4) as u32;
     let field = match chance.below(5) {
         0 => "list",
@@ -90,24 +99,19 @@ fn change_by_chance(alloc: Global, chance: &mut Chance) -> Result<Change, Fail> 
         2 => Given::Bool(true),
         _ => Given::Int(chance.below(1000) as i64),
     };
-    change_of(alloc, (object, field, given))
+    (object, field, given)
 }
 
-/// Up to three changes by chance.
-fn list_by_chance(alloc: Global, chance: &mut Chance) -> Result<Seq<Change>, Fail> {
-    let mut list = Seq::new(alloc);
-    for _ in 0..chance.below(4) {
-        list.push(change_by_chance(alloc, chance)?)?;
-    }
-    Ok(list)
-}
-
-/// So many lists of changes by chance.
+/// So many lists by chance, of up to three changes each.
 pub fn lists_by_chance(alloc: Global, seed: u64, count: u64) -> Result<Seq<Seq<Change>>, Fail> {
     let mut chance = Chance { seed };
     let mut lists = Seq::new(alloc);
     for _ in 0..count {
-        lists.push(list_by_chance(alloc, &mut chance)?)?;
+        let mut list = Seq::new(alloc);
+        for _ in 0..chance.below(4) {
+            list.push(change_of(alloc, row_by_chance(&mut chance))?)?;
+        }
+        lists.push(list)?;
     }
     Ok(lists)
 }

@@ -31,11 +31,6 @@ const BIND_FORESTS: &[Row<'static>] = &[
     ),
 ];
 
-#[test]
-fn a_bound_name_finds_a_value_of_its_kind(rt: HostRuntime) -> Result<(), Fail> {
-    expect_forests(rt.alloc(), BIND, BIND_FORESTS)
-}
-
 /// A branch of the script.
 const BRANCH: &str =
     "main { print(1); batch (Dir r) { if (r.file(0).size() > 9) { r.file(0).grow(1); print(2); } else { print(r.file(1).name()); } } }";
@@ -85,11 +80,6 @@ const BRANCH_FORESTS: &[Row<'static>] = &[
         "ok 1 fault 2 at 3:62\n1\n",
     ),
 ];
-
-#[test]
-fn a_branch_finds_a_branch(rt: HostRuntime) -> Result<(), Fail> {
-    expect_forests(rt.alloc(), BRANCH, BRANCH_FORESTS)
-}
 
 /// A loop over objects.
 const TURNS: &str =
@@ -142,11 +132,6 @@ const TURNS_FORESTS: &[Row<'static>] = &[
     ),
 ];
 
-#[test]
-fn a_loop_finds_rows(rt: HostRuntime) -> Result<(), Fail> {
-    expect_forests(rt.alloc(), TURNS, TURNS_FORESTS)
-}
-
 /// A loop over numbers, which are kept.
 const KEPT: &str = "main { print(1); batch (Dir r) { for (n in r.sizes()) { print(n); } } }";
 
@@ -180,6 +165,10 @@ const KEPT_FORESTS: &[Row<'static>] = &[
 ];
 
 #[test]
-fn each_turn_of_kept_rows_begins_with_its_row(rt: HostRuntime) -> Result<(), Fail> {
-    expect_forests(rt.alloc(), KEPT, KEPT_FORESTS)
+fn each_part_finds_a_part_of_its_kind(rt: HostRuntime) -> Result<(), Fail> {
+    let alloc = rt.alloc();
+    expect_forests(alloc, BIND, BIND_FORESTS)?;
+    expect_forests(alloc, BRANCH, BRANCH_FORESTS)?;
+    expect_forests(alloc, TURNS, TURNS_FORESTS)?;
+    expect_forests(alloc, KEPT, KEPT_FORESTS)
 }

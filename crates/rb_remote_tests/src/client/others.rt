@@ -1,12 +1,11 @@
 // Runs over a link at whose server others change the table between two batches, beside the unsplit run with the same changes.
 
-use crate::client::changes::{Given, Row, lists_by_chance, lists_of};
-use crate::client::hosts::{files, files_host};
-use crate::client::runs::{ran, ran_unsplit, same_answer};
-use rb_changes::are_bounded;
+use crate::client::answers::same_answer;
+use crate::client::changes::{Given, Row, lists_by_chance, lists_of, meddled_link};
+use crate::client::hosts::FILES;
+use crate::client::runs::{Unsplit, ran, ran_over};
 use rb_heap::Heap;
-use rb_session::MeddledLink;
-use rb_store::print_table;
+use rb_store::{print_table, read_service};
 use rb_trees::{Change, Seq};
 use std::alloc::Global;
 use std::test::Fail;
@@ -20,39 +19,29 @@ fn with_table(alloc: Global, answer: &str, table: &Heap) -> Result<String, Fail>
 
 /// What `main` answers over a link at whose server others make these changes, and the table then.
 fn meddled(alloc: Global, main: &str, others: Seq<Seq<Change>>) -> Result<String, Fail> {
-    if !are_bounded(others.as_slice()) {
-        return Err(Fail::new("a value is too long"));
-    }
-    let mut link = MeddledLink::make(alloc, files_host(alloc)?, others);
-    let answer = ran(alloc, main, 1000, &[], &mut link)?;
+    let mut link = meddled_link(alloc, FILES, others)?;
+    let answer = ran_over(alloc, main, &mut link)?;
     with_table(alloc, answer.as_str(), link.host().table())
 }
 
-/// What the unsplit run of `main` answers where others make these changes, and the table then.
+/// What the unsplit run of `main` answers on the service where others make these changes, and the table then.
 fn unsplit(alloc: Global, main: &str, others: &Seq<Seq<Change>>) -> Result<String, Fail> {
-    let (service, mut table) = files(alloc)?;
-    let answer = ran_unsplit(alloc, main, &service, &mut table, others)?;
+    let (service, mut table) = read_service(alloc, FILES.as_bytes())?;
+    let mut way = Unsplit {
+        service: &service,
+        table: &mut table,
+        others,
+    };
+    let answer = ran(alloc, main, &mut way)?;
     with_table(alloc, answer.as_str(), &table)
 }
 
-/// Fails where the two answer otherwise. The lists are made twice, since the link takes its own.
-fn expect_alike(
-    alloc: Global,
-    main: &str,
-    first: Seq<Seq<Change>>,
-    second: &Seq<Seq<Change>>,
-) -> Result<String, Fail> {
-    let apart = meddled(alloc, main, first)?;
-    let whole = unsplit(alloc, main, second)?;
+/// What the two answer where others make these changes. Fails where one answers otherwise than the other.
+fn alike(alloc: Global, main: &str, others: Seq<Seq<Change>>) -> Result<String, Fail> {
+    let whole = unsplit(alloc, main, &others)?;
+    let apart = meddled(alloc, main, others)?;
     same_answer(&main, apart.as_str(), whole.as_str())?;
-    Ok(apart)
-}
-
-/// Fails where `main` answers otherwise where others make these changes, by either way.
-fn expect_meddled(alloc: Global, main: &str, lists: &[&[Row<'_>]], want: &str) -> Result<(), Fail> {
-    let others = lists_of(alloc, lists)?;
-    let answer = expect_alike(alloc, main, others, &lists_of(alloc, lists)?)?;
-    same_answer(&main, answer.as_str(), want)
+    Ok(whole)
 }
 
 /// A batch that prints a size, twice.
@@ -71,70 +60,66 @@ const MENDED: &str =
 const FAULTS: &str =
     "main { try { batch (Dir r) { r.file(0).grow(1); var z = 0; print(1 / z); } } catch (e) { print(e); } batch (Dir r) { r.file(0).grow(1); print(r.file(0).size()); } }";
 
-/// What a run answers, and behind it the table of two files of which the first has this name and size.
-fn with_files(alloc: Global, answer: &str, name: &str, size: u64) -> Result<String, Fail> {
-    Ok(format!(in alloc;
-        "{answer}object 0: Dir {{ list = [#1, #2]; }}\nobject 1: File {{ name = \"{name}\"; size = {size}; }}\nobject 2: File {{ name = \"bb\"; size = 200; }}\n"
-    )?)
-}
+/// A program, the changes that others make before each batch, and what it answers, with the table then.
+type Case<'a> = (&'a str, &'a [&'a [Row<'a>]], &'a str);
+
+const CASES: &[Case<'static>] = &[
+    // Each batch begins on the table that it finds.
+    (
+        TWICE,
+        &[&[], &[(1, "size", Given::Int(50))]],
+        "ok 2 done\n10\n50\nobject 0: Dir { list = [#1, #2]; }\nobject 1: File { name = \"a\"; size = 50; }\nobject 2: File { name = \"bb\"; size = 200; }\n",
+    ),
+    // What others do first is found twice.
+    (
+        TWICE,
+        &[&[(1, "size", Given::Int(-1)), (1, "size", Given::Int(7))]],
+        "ok 2 done\n7\n7\nobject 0: Dir { list = [#1, #2]; }\nobject 1: File { name = \"a\"; size = 7; }\nobject 2: File { name = \"bb\"; size = 200; }\n",
+    ),
+    // A change that doesn't suit is skipped.
+    (
+        TWICE,
+        &[
+            &[(9, "size", Given::Int(1))],
+            &[
+                (1, "date", Given::Int(1)),
+                (0, "list", Given::Int(1)),
+                (1, "name", Given::Bool(true)),
+                (1, "size", Given::Text("x")),
+            ],
+        ],
+        "ok 2 done\n10\n10\nobject 0: Dir { list = [#1, #2]; }\nobject 1: File { name = \"a\"; size = 10; }\nobject 2: File { name = \"bb\"; size = 200; }\n",
+    ),
+    // An update over two batches may be lost, and one in one batch is not.
+    (
+        LOST,
+        &[&[], &[(1, "name", Given::Text("b"))]],
+        "ok 2 done\nobject 0: Dir { list = [#1, #2]; }\nobject 1: File { name = \"a!\"; size = 10; }\nobject 2: File { name = \"bb\"; size = 200; }\n",
+    ),
+    (
+        MENDED,
+        &[&[], &[(1, "name", Given::Text("b"))]],
+        "ok 2 done\n1\nobject 0: Dir { list = [#1, #2]; }\nobject 1: File { name = \"b!\"; size = 10; }\nobject 2: File { name = \"bb\"; size = 200; }\n",
+    ),
+    // A local fault leaves the remote part of what was found.
+    (
+        FAULTS,
+        &[
+            &[(1, "size", Given::Int(3))],
+            &[(1, "size", Given::Int(30))],
+        ],
+        "ok 2 done\nDivZero\n31\nobject 0: Dir { list = [#1, #2]; }\nobject 1: File { name = \"a\"; size = 31; }\nobject 2: File { name = \"bb\"; size = 200; }\n",
+    ),
+];
 
 #[test]
 fn each_batch_begins_on_the_table_that_it_finds(rt: HostRuntime) -> Result<(), Fail> {
     let alloc = rt.alloc();
-    let want = with_files(alloc, "ok 2 done\n10\n50\n", "a", 50)?;
-    let lists: &[&[Row<'_>]] = &[&[], &[(1, "size", Given::Int(50))]];
-    expect_meddled(alloc, TWICE, lists, want.as_str())
-}
-
-#[test]
-fn what_others_do_first_is_found_twice(rt: HostRuntime) -> Result<(), Fail> {
-    let alloc = rt.alloc();
-    let want = with_files(alloc, "ok 2 done\n7\n7\n", "a", 7)?;
-    let lists: &[&[Row<'_>]] = &[&[(1, "size", Given::Int(-1)), (1, "size", Given::Int(7))]];
-    expect_meddled(alloc, TWICE, lists, want.as_str())
-}
-
-#[test]
-fn a_change_that_does_not_suit_is_skipped(rt: HostRuntime) -> Result<(), Fail> {
-    let alloc = rt.alloc();
-    let want = with_files(alloc, "ok 2 done\n10\n10\n", "a", 10)?;
-    let lists: &[&[Row<'_>]] = &[
-        &[(9, "size", Given::Int(1))],
-        &[
-            (1, "date", Given::Int(1)),
-            (0, "list", Given::Int(1)),
-            (1, "name", Given::Bool(true)),
-            (1, "size", Given::Text("x")),
-        ],
-    ];
-    expect_meddled(alloc, TWICE, lists, want.as_str())
-}
-
-#[test]
-fn an_update_over_two_batches_may_be_lost(rt: HostRuntime) -> Result<(), Fail> {
-    let alloc = rt.alloc();
-    let want = with_files(alloc, "ok 2 done\n", "a!", 10)?;
-    let lists: &[&[Row<'_>]] = &[&[], &[(1, "name", Given::Text("b"))]];
-    expect_meddled(alloc, LOST, lists, want.as_str())
-}
-
-#[test]
-fn an_update_in_one_batch_is_not_lost(rt: HostRuntime) -> Result<(), Fail> {
-    let alloc = rt.alloc();
-    let want = with_files(alloc, "ok 2 done\n1\n", "b!", 10)?;
-    let lists: &[&[Row<'_>]] = &[&[], &[(1, "name", Given::Text("b"))]];
-    expect_meddled(alloc, MENDED, lists, want.as_str())
-}
-
-#[test]
-fn a_local_fault_leaves_the_remote_part_of_what_was_found(rt: HostRuntime) -> Result<(), Fail> {
-    let alloc = rt.alloc();
-    let want = with_files(alloc, "ok 2 done\nDivZero\n31\n", "a", 31)?;
-    let lists: &[&[Row<'_>]] = &[
-        &[(1, "size", Given::Int(3))],
-        &[(1, "size", Given::Int(30))],
-    ];
-    expect_meddled(alloc, FAULTS, lists, want.as_str())
+    for (main, lists, want) in CASES {
+        let answer = alike(alloc, main, lists_of(alloc, lists)?)?;
+        same_answer(main, answer.as_str(), want)?;
+    }
+    Ok(())
 }
 
 /// Batches that read, grow, rename and fault by what they find.
@@ -144,8 +129,7 @@ const BUSY: &str =
 /// Fails at the first of so many seeds whose changes the two answer otherwise.
 fn expect_alike_by_chance(alloc: Global, count: u64) -> Result<(), Fail> {
     for seed in 0..count {
-        let others = lists_by_chance(alloc, seed, 5)?;
-        let _answer = expect_alike(alloc, BUSY, others, &lists_by_chance(alloc, seed, 5)?)?;
+        let _answer = alike(alloc, BUSY, lists_by_chance(alloc, seed, 5)?)?;
     }
     Ok(())
 }

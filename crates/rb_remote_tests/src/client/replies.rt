@@ -1,14 +1,15 @@
 // What a run of two texts answers to each reply.
 
-use crate::client::runs::{Row, expect_forests, expect_replies, replied_forest, same_answer};
+use crate::client::runs::{Row, expect_forests, expect_replies, nested};
 use std::alloc::Global;
 use std::test::Fail;
 
 /// A batch that prints two texts.
 const TWO: &str = "main { batch (Dir r) { print(r.file(0).name()); print(r.file(1).name()); } }";
 
-/// Payloads that are no forests, with the answers.
-const NO_FORESTS: &[Row<'static>] = &[
+/// Payloads with the answers: those that are no forests, which are told with their first violation, those that don't fit that
+/// batch, and those that are replayed.
+const FORESTS: &[Row<'static>] = &[
     (b"\x01", "bad reply 0 forest 1 1\n"),
     (
         b"\x01\x00\x00\x00\x01\x31\x01\x00\x00\x00\x00\x00\x00\x00",
@@ -31,49 +32,7 @@ const NO_FORESTS: &[Row<'static>] = &[
     ),
     // A byte is behind the forest.
     (b"\x01\x00\x00\x00\x00\x00\x00", "bad reply 0 forest 6 6\n"),
-];
-
-#[test]
-fn forests_that_are_none_are_told_with_their_first_violation(rt: HostRuntime) -> Result<(), Fail> {
-    expect_forests(rt.alloc(), TWO, NO_FORESTS)
-}
-
-/// The payload of a forest with this many nodes within each other.
-fn nested(alloc: Global, count: usize) -> Result<Vec<u8>, Fail> {
-    let mut payload = Vec::from_slice(alloc, b"\x01")?;
-    for _ in 1..count {
-        payload.extend_from_slice(b"\x00\x00\x00\x01\x32\x01")?;
-    }
-    payload.extend_from_slice(b"\x00\x00\x00\x00\x00")?;
-    for _ in 1..count {
-        payload.push(0)?;
-    }
-    Ok(payload)
-}
-
-/// Fails at the first number of nodes within each other whose payload has another answer.
-fn expect_nested(alloc: Global, rows: &[(usize, &str)]) -> Result<(), Fail> {
-    for (count, want) in rows {
-        let payload = nested(alloc, *count)?;
-        let answer = replied_forest(alloc, TWO, payload.as_slice())?;
-        same_answer(count, answer.as_str(), want)?;
-    }
-    Ok(())
-}
-
-#[test]
-fn sixty_four_nodes_are_a_forest_and_one_more_is_none(rt: HostRuntime) -> Result<(), Fail> {
-    expect_nested(
-        rt.alloc(),
-        &[
-            (64, "bad reply 0 misfit 0\n"),
-            (65, "bad reply 0 forest 5 385\n"),
-        ],
-    )
-}
-
-/// Forests that do not fit that batch, with the answers.
-const OTHER_FORESTS: &[Row<'static>] = &[
+    // Forests that don't fit.
     (b"\x01\x00\x00\x00\x00\x00", "bad reply 0 misfit 0\n"),
     (
         b"\x01\x00\x00\x00\x02\x31\x01\x00\x00\x00\x00\x00\x00\x00\x01\x31\x03\x00\x00\x00\x01a\x00",
@@ -105,15 +64,7 @@ const OTHER_FORESTS: &[Row<'static>] = &[
         b"\x01\x00\x00\x00\x02\x31\x03\x00\x00\x00\x01a\x31\x03\x00\x00\x00\x01b\x01\x00\x00\x00\x01\x00\x00\x00\x00\x01",
         "bad reply 0 misfit extra\n",
     ),
-];
-
-#[test]
-fn forests_of_other_batches_do_not_fit(rt: HostRuntime) -> Result<(), Fail> {
-    expect_forests(rt.alloc(), TWO, OTHER_FORESTS)
-}
-
-/// Forests that fit that batch, with the answers.
-const FITTING_FORESTS: &[Row<'static>] = &[
+    // Forests that fit.
     (
         b"\x01\x00\x00\x00\x02\x31\x03\x00\x00\x00\x01a\x31\x03\x00\x00\x00\x02bb\x00",
         "ok 1 done\na\nbb\n",
@@ -133,12 +84,33 @@ const FITTING_FORESTS: &[Row<'static>] = &[
 ];
 
 #[test]
-fn forests_that_fit_are_replayed(rt: HostRuntime) -> Result<(), Fail> {
-    expect_forests(rt.alloc(), TWO, FITTING_FORESTS)
+fn forests_are_replayed_or_told_with_what_is_wrong(rt: HostRuntime) -> Result<(), Fail> {
+    expect_forests(rt.alloc(), TWO, FORESTS)
 }
 
-/// Replies that are no frames, with the answers.
-const NO_FRAMES: &[Row<'static>] = &[
+/// Fails at the first number of nodes within each other, and of zeros behind them, whose payload has another answer.
+fn expect_nested(alloc: Global, rows: &[(usize, &[u8], &str)]) -> Result<(), Fail> {
+    for (count, zeros, want) in rows {
+        let payload = nested(alloc, b"\x01", b"\x00\x00\x00\x01\x32\x01", *count, zeros)?;
+        expect_forests(alloc, TWO, &[(payload.as_slice(), want)])?;
+    }
+    Ok(())
+}
+
+#[test]
+fn sixty_four_nodes_are_a_forest_and_one_more_is_none(rt: HostRuntime) -> Result<(), Fail> {
+    expect_nested(
+        rt.alloc(),
+        &[
+            // Around the innermost node, which has five zeros, are 63 others, and 64, each of which ends with one.
+            (63, &[0; 68], "bad reply 0 misfit 0\n"),
+            (64, &[0; 69], "bad reply 0 forest 5 385\n"),
+        ],
+    )
+}
+
+/// Replies with the answers: those that are no frames, and refusals, and what is none.
+const FRAMES: &[Row<'static>] = &[
     (b"", "bad reply 0 cut 0\n"),
     (b"RB", "bad reply 0 cut 2\n"),
     // The greatest length, and then the end.
@@ -161,15 +133,7 @@ const NO_FRAMES: &[Row<'static>] = &[
         b"RB\x01\x00\x00\x00\x00\x00\x00\x00\x00",
         "bad reply 0 frame 2\n",
     ),
-];
-
-#[test]
-fn replies_that_are_no_frames_are_told(rt: HostRuntime) -> Result<(), Fail> {
-    expect_replies(rt.alloc(), TWO, NO_FRAMES)
-}
-
-/// Refusals, and what is none, with the answers.
-const REFUSALS: &[Row<'static>] = &[
+    // Refusals.
     (
         b"RB\x03\x00\x00\x00\x00\x00\x00\x00\x01\x00",
         "bad reply 0 garbled\n",
@@ -208,8 +172,8 @@ const REFUSALS: &[Row<'static>] = &[
 ];
 
 #[test]
-fn refusals_are_told(rt: HostRuntime) -> Result<(), Fail> {
-    expect_replies(rt.alloc(), TWO, REFUSALS)
+fn refusals_and_replies_that_are_no_frames_are_told(rt: HostRuntime) -> Result<(), Fail> {
+    expect_replies(rt.alloc(), TWO, FRAMES)
 }
 
 /// Two batches, and a line between them.

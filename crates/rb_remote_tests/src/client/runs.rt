@@ -1,14 +1,17 @@
-// Runs of programs over links, each with its answer as a text.
+// Runs of programs over links and unsplit, each with its answer as a text.
 
+ghost use Rattle.std.specs.Prelude.{◌≡◌, [], IfOk};
 ghost use Rattle.rb_trees.specs.mirror.Declarations.{mirror_program};
 ghost use Rattle.rb_law_division.specs.Sendable.{HasPlaces};
 ghost use Rattle.rb_flow.specs.Program.{HasNoRefusal};
+ghost use Rattle.rb_base.specs.Sinks.{new_sink};
+ghost use Rattle.rb_base.specs.Sources.{new_source};
 ghost use Rattle.rb_client.specs.Runs.{IsAcceptedWith};
 
-use crate::client::answers::{answer_text, run_text as ended_text};
+use crate::client::answers::{answer_text, run_text as ended_text, same_answer};
+use crate::client::hosts::code_of;
 use rb_base::{Link, MemorySink, MemorySource};
 use rb_client::run_client;
-use rb_code::{Code, classes_differ};
 use rb_flow::{Admitted, admit};
 use rb_heap::Heap;
 use rb_law_reading::read_programs_have_places;
@@ -17,10 +20,9 @@ use rb_parse::parse_program;
 use rb_plain::unsplit;
 use rb_session::FrameLink;
 use rb_split::split_all;
-use rb_trees::{Change, Seq, Service, Split};
+use rb_trees::{Change, Run, Seq, Service, Split};
 use rb_types::{Typed, check};
 use std::alloc::Global;
-use std::fmt::Debug;
 use std::test::Fail;
 
 /// The interfaces of a directory of files, which are the first two lines of each program.
@@ -28,196 +30,187 @@ const INTERFACES: &str = "\
 interface File { fun name(): Text; fun size(): Int; fun grow(by: Int); fun check(max: Int); fun rename(to: Text); }\n\
 interface Dir { fun files(): Rows<File>; fun file(i: Int): File; fun burn(n: Int); fun sizes(): Rows<Int>; }\n";
 
-/// A text, its fuel, and the writes of its output that fail.
-#[derive(Drop)]
-pub struct Case<'a> {
-    pub text: &'a str,
-    pub fuel: u64,
-    pub failing: &'a [u64],
+/// A way to run a program that is admitted.
+pub trait Way {
+    /// Runs the program of a text, and answers how it ended and what it printed.
+    fn run(&mut self, alloc: Global, text: &str, admitted: &Admitted<'_>) -> Result<String, Fail>
+        requires none { HasNoRefusal (mirror_program admitted.now.0) }
+        requires places { HasPlaces (mirror_program admitted.now.0) };
 }
 
-/// Runs an accepted program over a link.
-fn run_accepted<L: Link>(
-    alloc: Global,
-    typed: &Typed,
-    splits: &Seq<Split>,
-    case: &Case<'_>,
-    link: &mut L,
-) -> Result<String, Fail>
-    requires { IsAcceptedWith typed.now splits.now }
-{
-    let failing = Seq::from_slice(alloc, case.failing)?;
-    let mut out = MemorySink::make(alloc, failing, usize::MAX);
-    let answer = run_client(alloc, typed, splits, case.fuel, link, &mut out);
-    answer_text(alloc, case.text, &answer, out.written())
-}
-
-/// Divides the batches of a program that was admitted, and runs it over a link.
-fn run_admitted<L: Link>(
-    alloc: Global,
-    admitted: &Admitted<'_>,
-    case: &Case<'_>,
-    link: &mut L,
-) -> Result<String, Fail>
-    requires none { HasNoRefusal (mirror_program admitted.now.0) }
-    requires places { HasPlaces (mirror_program admitted.now.0) }
-{
-    match split_all(alloc, admitted) {
-        Ok(splits) => run_accepted(alloc, admitted.typed(), &splits, case, link),
-        Err(_) => Err(Fail::new("the batches aren't divided")),
-    }
-}
-
-/// Admits a typed program, and runs it over a link.
-fn run_typed<L: Link>(
-    alloc: Global,
-    typed: &Typed,
-    case: &Case<'_>,
-    link: &mut L,
-) -> Result<String, Fail>
+/// Admits a typed program, and runs it some way.
+fn run_typed<Y: Way>(alloc: Global, text: &str, typed: &Typed, way: &mut Y) -> Result<String, Fail>
     requires { HasPlaces (mirror_program typed.now) }
 {
     let marks = mark(alloc, typed)?;
     match admit(alloc, typed, marks) {
-        Ok(admitted) => run_admitted(alloc, &admitted, case, link),
+        Ok(admitted) => way.run(alloc, text, &admitted),
         Err(_) => Err(Fail::new("the program isn't admitted")),
     }
 }
 
-/// Runs a program's text over a link.
-fn run_text<L: Link>(alloc: Global, case: &Case<'_>, link: &mut L) -> Result<String, Fail> {
+/// Runs the program of a text some way.
+fn run_text<Y: Way>(alloc: Global, text: &str, way: &mut Y) -> Result<String, Fail> {
     read_programs_have_places();
-    match parse_program(alloc, case.text.as_bytes()) {
-        Ok(program) => match check(alloc, program) {
-            Ok(typed) => run_typed(alloc, &typed, case, link),
-            Err(_) => Err(Fail::new("the program isn't typed")),
-        },
-        Err(_) => Err(Fail::new("the text isn't read")),
-    }
-}
-
-/// What `main`, behind the interfaces, answers over a link, with so much fuel, to an output whose listed writes fail.
-pub fn ran<L: Link>(
-    alloc: Global,
-    main: &str,
-    fuel: u64,
-    failing: &[u64],
-    link: &mut L,
-) -> Result<String, Fail> {
-    let text = format!(in alloc; "{INTERFACES}{main}")?;
-    let case = Case {
-        text: text.as_str(),
-        fuel,
-        failing,
-    };
-    run_text(alloc, &case, link)
-}
-
-/// The unsplit run of an admitted program on a service, where others make these changes, and what it printed.
-fn run_whole(
-    alloc: Global,
-    admitted: &Admitted<'_>,
-    text: &str,
-    service: &Service,
-    table: &mut Heap,
-    others: &Seq<Seq<Change>>,
-) -> Result<String, Fail> {
-    if !classes_differ(alloc, service.classes.as_slice())? {
-        return Err(Fail::new("two classes or methods have one name"));
-    }
-    let code = Code::make(alloc, &service.classes)?;
-    let mut out = MemorySink::make(alloc, Seq::new(alloc), usize::MAX);
-    let ended = match unsplit(
-        alloc,
-        admitted,
-        &code,
-        service.root,
-        table,
-        1000,
-        &mut out,
-        others,
-    ) {
-        Ok(run) => ended_text(alloc, text, &run)?,
-        Err(_) => return Err(Fail::new("the unsplit run was cut off")),
-    };
-    let lines = str::from_utf8(out.written())?;
-    Ok(format!(in alloc; "{ended}\n{lines}")?)
-}
-
-/// Marks and admits a typed program, and runs it unsplit.
-fn admit_whole(
-    alloc: Global,
-    typed: &Typed,
-    text: &str,
-    service: &Service,
-    table: &mut Heap,
-    others: &Seq<Seq<Change>>,
-) -> Result<String, Fail> {
-    let marks = mark(alloc, typed)?;
-    match admit(alloc, typed, marks) {
-        Ok(admitted) => run_whole(alloc, &admitted, text, service, table, others),
-        Err(_) => Err(Fail::new("the program isn't admitted")),
-    }
-}
-
-/// What the unsplit run of `main`, behind the interfaces, answers on a service, where others make these changes.
-pub fn ran_unsplit(
-    alloc: Global,
-    main: &str,
-    service: &Service,
-    table: &mut Heap,
-    others: &Seq<Seq<Change>>,
-) -> Result<String, Fail> {
-    let text = format!(in alloc; "{INTERFACES}{main}")?;
     match parse_program(alloc, text.as_bytes()) {
         Ok(program) => match check(alloc, program) {
-            Ok(typed) => admit_whole(alloc, &typed, text.as_str(), service, table, others),
+            Ok(typed) => run_typed(alloc, text, &typed, way),
             Err(_) => Err(Fail::new("the program isn't typed")),
         },
         Err(_) => Err(Fail::new("the text isn't read")),
     }
 }
 
-/// What `main` answers over a link that replies these bytes.
-pub fn replied(alloc: Global, main: &str, bytes: &[u8]) -> Result<String, Fail> {
-    let bytes = Seq::from_slice(alloc, bytes)?;
-    let source = MemorySource::make(bytes, Seq::new(alloc), usize::MAX);
-    let sink = MemorySink::make(alloc, Seq::new(alloc), usize::MAX);
-    let mut link = FrameLink::make(alloc, source, sink);
-    ran(alloc, main, 1000, &[], &mut link)
+/// What `main`, behind the interfaces, answers some way.
+pub fn ran<Y: Way>(alloc: Global, main: &str, way: &mut Y) -> Result<String, Fail> {
+    let text = format!(in alloc; "{INTERFACES}{main}")?;
+    run_text(alloc, text.as_str(), way)
 }
 
-/// What `main` answers over a link that replies a forest, or what else has these bytes.
-pub fn replied_forest(alloc: Global, main: &str, payload: &[u8]) -> Result<String, Fail> {
-    let mut bytes = Vec::from_slice(alloc, b"RB\x02")?;
-    bytes.extend_from_slice(&(payload.len() as u64).to_be_bytes())?;
-    bytes.extend_from_slice(payload)?;
-    replied(alloc, main, bytes.as_slice())
+/// To run over a link, with so much fuel, to an output of which these writes fail.
+#[derive(Drop)]
+pub struct Over<'a, L> {
+    pub link: &'a mut L,
+    pub fuel: u64,
+    pub failing: &'a [u64],
+}
+
+impl<L: Link> Over<'_, L> {
+    /// Runs the accepted program of a text.
+    fn run_accepted(
+        &mut self,
+        alloc: Global,
+        text: &str,
+        typed: &Typed,
+        splits: &Seq<Split>,
+    ) -> Result<String, Fail>
+        requires { IsAcceptedWith typed.now splits.now }
+    {
+        let failing = Seq::from_slice(alloc, self.failing)?;
+        let mut out = MemorySink::make(alloc, failing, usize::MAX);
+        let answer = run_client(alloc, typed, splits, self.fuel, self.link, &mut out);
+        answer_text(alloc, text, &answer, out.written())
+    }
+}
+
+impl<L: Link> Way for Over<'_, L> {
+    fn run(&mut self, alloc: Global, text: &str, admitted: &Admitted<'_>) -> Result<String, Fail> {
+        match split_all(alloc, admitted) {
+            Ok(splits) => self.run_accepted(alloc, text, admitted.typed(), &splits),
+            Err(_) => Err(Fail::new("the batches aren't divided")),
+        }
+    }
+}
+
+/// To run unsplit on a service, where others make these changes.
+#[derive(Drop)]
+pub struct Unsplit<'a> {
+    pub service: &'a Service,
+    pub table: &'a mut Heap,
+    pub others: &'a Seq<Seq<Change>>,
+}
+
+impl Unsplit<'_> {
+    /// Runs an admitted program.
+    fn run_whole(
+        &mut self,
+        alloc: Global,
+        admitted: &Admitted<'_>,
+        out: &mut MemorySink,
+    ) -> Result<Run, Fail> {
+        let code = code_of(alloc, self.service)?;
+        match unsplit(
+            alloc,
+            admitted,
+            &code,
+            self.service.root,
+            self.table,
+            1000,
+            out,
+            self.others,
+        ) {
+            Ok(run) => Ok(run),
+            Err(_) => Err(Fail::new("the unsplit run was cut off")),
+        }
+    }
+}
+
+impl Way for Unsplit<'_> {
+    fn run(&mut self, alloc: Global, text: &str, admitted: &Admitted<'_>) -> Result<String, Fail> {
+        let mut out = MemorySink::make(alloc, Seq::new(alloc), usize::MAX);
+        let run = self.run_whole(alloc, admitted, &mut out)?;
+        ended_text(alloc, text, &run, out.written())
+    }
+}
+
+/// What `main` answers over a link with much fuel, to an output that never fails.
+pub fn ran_over<L: Link>(alloc: Global, main: &str, link: &mut L) -> Result<String, Fail> {
+    let mut way = Over {
+        link,
+        fuel: 1000,
+        failing: &[],
+    };
+    ran(alloc, main, &mut way)
+}
+
+/// A link that replies these bytes.
+pub fn frame_link(alloc: Global, bytes: &[u8]) -> Result<FrameLink<MemorySource, MemorySink>, Fail>
+    ensures { let max = usize.MAX in IfOk result (λ link. link ≡
+        record { source = new_source bytes.now [] max; sink = new_sink [] max; pairs = [] }) }
+{
+    let source = MemorySource::make(Seq::from_slice(alloc, bytes)?, Seq::new(alloc), usize::MAX);
+    let sink = MemorySink::make(alloc, Seq::new(alloc), usize::MAX);
+    Ok(FrameLink::make(alloc, source, sink))
+}
+
+/// The frame of a kind and a payload.
+pub fn framed(alloc: Global, kind: u8, payload: &[u8]) -> Result<Seq<u8>, Fail> {
+    let mut frame = Seq::from_slice(alloc, b"RB")?;
+    frame.push(kind)?;
+    frame.extend_from_slice(&(payload.len() as u64).to_be_bytes())?;
+    frame.extend_from_slice(payload)?;
+    Ok(frame)
+}
+
+/// A part so many times, behind other bytes and before others.
+pub fn nested(
+    alloc: Global,
+    front: &[u8],
+    part: &[u8],
+    count: usize,
+    end: &[u8],
+) -> Result<Seq<u8>, Fail> {
+    let mut bytes = Seq::from_slice(alloc, front)?;
+    for _ in 0..count {
+        bytes.extend_from_slice(part)?;
+    }
+    bytes.extend_from_slice(end)?;
+    Ok(bytes)
+}
+
+/// Fails where `main` answers otherwise over a link that replies these bytes.
+fn expect_reply(alloc: Global, main: &str, bytes: &[u8], want: &str) -> Result<(), Fail> {
+    let mut link = frame_link(alloc, bytes)?;
+    let answer = ran_over(alloc, main, &mut link)?;
+    same_answer(&bytes, answer.as_str(), want)
 }
 
 /// What a link replies, and what is answered to it.
 pub type Row<'a> = (&'a [u8], &'a str);
 
-/// Fails where the answer to a row isn't the one that is wanted.
-pub fn same_answer<D: Debug>(row: &D, answer: &str, want: &str) -> Result<(), Fail> {
-    if answer == want {
-        return Ok(());
-    }
-    Err(Fail::new(format_args!("{answer:?} in place of {want:?}, to {row:?}")))
-}
-
 /// Fails at the first reply to which `main` answers otherwise.
 pub fn expect_replies(alloc: Global, main: &str, rows: &[Row<'_>]) -> Result<(), Fail> {
     for (bytes, want) in rows {
-        same_answer(bytes, replied(alloc, main, bytes)?.as_str(), want)?;
+        expect_reply(alloc, main, bytes, want)?;
     }
     Ok(())
 }
 
 /// Fails at the first forest, or what else has these bytes, to which `main` answers otherwise.
 pub fn expect_forests(alloc: Global, main: &str, rows: &[Row<'_>]) -> Result<(), Fail> {
-    for (bytes, want) in rows {
-        same_answer(bytes, replied_forest(alloc, main, bytes)?.as_str(), want)?;
+    for (payload, want) in rows {
+        let frame = framed(alloc, 2, payload)?;
+        expect_reply(alloc, main, frame.as_slice(), want)?;
     }
     Ok(())
 }

@@ -32,8 +32,8 @@ pub enum Event<'a> {
     Dial,
     /// It makes a link of its own.
     Around,
-    /// It exchanges a request and its reply over a link that was dialled.
-    Exchange,
+    /// It exchanges a request and its reply over a link that was dialled, after so many others.
+    Exchange(&'a str),
     /// It does so over its own, where no exchange fails.
     Within,
     /// It starts to listen, or waits for the next session.
@@ -50,11 +50,11 @@ pub enum Event<'a> {
     Line(&'a str),
 }
 
-/// A command, its exit status, and what it does, in order.
+/// A command, its exit status with a space behind it, and what it does, in order.
 #[derive(Clone, Copy)]
 pub struct Command<'a> {
     pub words: &'a str,
-    pub status: u8,
+    pub status: &'a str,
     /// Whether it says nothing on its output, not even what failed.
     pub is_silent: bool,
     pub events: &'a [&'a [Event<'a>]],
@@ -75,10 +75,10 @@ const TABLES: &[&str] = &[
 
 /// What each run of that program does.
 const RUN: &[Event<'static>] = &[
-    Event::Exchange,
+    Event::Exchange("0"),
     Event::Line("10"),
     Event::Line("5"),
-    Event::Exchange,
+    Event::Exchange("1"),
     Event::Line("200"),
     Event::Line("6"),
     Event::Line("fault 8 Thrown \"End\" at 3:152"),
@@ -188,7 +188,7 @@ pub const WHOLE: &[Event<'static>] = &[
 ];
 
 /// A session of one such request and five bytes of another.
-pub const CUT: &[Event<'static>] = &[
+const CUT: &[Event<'static>] = &[
     Event::Take,
     Event::Take,
     Event::Reply,
@@ -201,56 +201,56 @@ const READS: &[Event<'static>] = &[Event::Read("p"), Event::Read("s")];
 pub const COMMANDS: &[Command<'static>] = &[
     Command {
         words: "check p",
-        status: 0,
+        status: "0 ",
         is_silent: false,
         events: &[&[Event::Read("p"), Event::Line("accepted")]],
         tables: &[],
     },
     Command {
         words: "split p",
-        status: 0,
+        status: "0 ",
         is_silent: false,
         events: &[&[Event::Read("p")], VIEW],
         tables: &[],
     },
     Command {
         words: "both p s",
-        status: 1,
+        status: "1 ",
         is_silent: false,
         events: &[READS, NEAR, GROWN],
         tables: TABLES,
     },
     Command {
         words: "unsplit p s",
-        status: 1,
+        status: "1 ",
         is_silent: false,
         events: &[READS, UNDIVIDED, GROWN],
         tables: &[],
     },
     Command {
         words: "run a p",
-        status: 1,
+        status: "1 ",
         is_silent: false,
         events: &[&[Event::Read("p"), Event::Dial], RUN],
         tables: TABLES,
     },
     Command {
         words: "pair p s",
-        status: 1,
+        status: "1 ",
         is_silent: false,
         events: &[READS, &[Event::Dial], RUN],
         tables: TABLES,
     },
     Command {
         words: "trial 8",
-        status: 0,
+        status: "0 ",
         is_silent: false,
         events: &[TRIAL],
         tables: TRIAL_TABLES,
     },
     Command {
         words: "serve a s 2",
-        status: 0,
+        status: "0 ",
         is_silent: false,
         events: &[
             &[Event::Read("s"), Event::Listen, Event::Listen],
@@ -269,7 +269,7 @@ pub const COMMANDS: &[Command<'static>] = &[
     // It has no output: it makes no write but those of its session.
     Command {
         words: "child s",
-        status: 0,
+        status: "0 ",
         is_silent: true,
         events: &[&[Event::Read("s"), Event::Listen, Event::Listen], WHOLE],
         tables: &[],

@@ -1,28 +1,23 @@
 // One failure at each place: each call that a command makes of its outside fails in turn.
 
-ghost use Rattle.std.specs.Prelude.{◌≡◌, IfOk};
-
-use crate::commands::commands::{answer_with, came_back, exchanges_back, on_files};
+use crate::client::answers::other;
+use crate::commands::commands::expect_on;
+use crate::commands::desks::{Asked, Text};
+use crate::commands::dialled::{Waiting, add_links, came_back};
 use crate::commands::events::{
-    CALLS, COMMANDS, CUT, Call, Command, Event, GROW, MAIN, REPLIES, SIZES, WHOLE,
+    CALLS, COMMANDS, Call, Command, Event, GROW, MAIN, REPLIES, SIZES, WHOLE,
 };
-use crate::commands::texts::{SERVICE, host_of};
-use rb_base::{Coming, MemoryFiles, MemoryListen, MemorySink};
+use crate::commands::sessions::{Session, listen_of};
+use crate::commands::texts::{FILES, SERVICE};
+use rb_base::MemoryListen;
+use rb_disk::NullStores;
 use rb_heap::Heap;
-use rb_session::{FailingLink, MemoryDial, Target};
+use rb_session::{FailingLink, MemoryDial};
 use rb_store::print_table;
 use rb_trees::Seq;
 use std::alloc::Global;
+use std::slice;
 use std::test::Fail;
-
-/// What a run comes to: its exit status before what it prints, how many exchanges the link had that came back, and the replies
-/// that were written in its sessions.
-#[derive(Debug, Drop, PartialEq)]
-struct Outcome {
-    shown: String,
-    exchanges: Option<usize>,
-    replies: Seq<u8>,
-}
 
 /// The call that an event is.
 fn call_of(event: &Event<'_>) -> Option<Call> {
@@ -30,7 +25,7 @@ fn call_of(event: &Event<'_>) -> Option<Call> {
         Event::Read(_) => Some(Call::Read),
         Event::Dial => Some(Call::Dial),
         Event::Around | Event::Within => None,
-        Event::Exchange => Some(Call::Exchange),
+        Event::Exchange(_) => Some(Call::Exchange),
         Event::Listen => Some(Call::Listen),
         Event::Take => Some(Call::Take),
         Event::Reply => Some(Call::Reply),
@@ -114,14 +109,16 @@ impl Front {
     /// An event happens.
     fn happens(&mut self, event: &Event<'_>) -> Result<(), Fail> {
         match event {
-            Event::Line(line) => self.prints(line)?,
-            Event::Grown => self.prints_size()?,
-            Event::Session(end) => self.ends_session(end)?,
+            Event::Line(line) => return self.prints(line),
+            Event::Grown => return self.prints_size(),
+            Event::Session(end) => return self.ends_session(end),
+            Event::Reply => return self.writes_reply(),
             Event::Dial | Event::Around => self.exchanges = Some(0),
-            Event::Exchange | Event::Within => {
-                self.exchanges = self.exchanges.map(|count| count.wrapping_add(1));
+            Event::Exchange(_) | Event::Within => {
+                if let Some(count) = self.exchanges {
+                    self.exchanges = Some(count.wrapping_add(1));
+                }
             }
-            Event::Reply => self.writes_reply()?,
             Event::Read(_) | Event::Listen | Event::Take => {}
         }
         Ok(())
@@ -170,31 +167,25 @@ impl Front {
     }
 
     /// Stops at a call that fails: says so behind the lines, and answers the status.
-    fn stops(&mut self, event: &Event<'_>) -> Result<u8, Fail> {
-        match event {
-            Event::Read(name) => {
-                writeln!(self.lines, "file fault {name}")?;
-                Ok(3)
-            }
-            Event::Dial => {
-                self.prints("dial fault")?;
-                Ok(11)
-            }
-            Event::Exchange => {
-                let done = self.exchanges.unwrap_or(0);
-                writeln!(self.lines, "link fault {done}")?;
-                Ok(7)
-            }
-            Event::Listen => {
-                self.prints("listen fault")?;
-                Ok(12)
-            }
-            _ => Ok(9),
-        }
+    fn stops(&mut self, event: &Event<'_>) -> Result<&'static str, Fail> {
+        let (status, cause, of) = match event {
+            Event::Read(name) => ("3 ", "file fault ", *name),
+            Event::Dial => ("11 ", "dial fault", ""),
+            Event::Exchange(done) => ("7 ", "link fault ", *done),
+            Event::Listen => ("12 ", "listen fault", ""),
+            _ => return Ok("9 "),
+        };
+        writeln!(self.lines, "{cause}{of}")?;
+        Ok(status)
+    }
+
+    /// The lines, or none where the command says nothing on its output.
+    fn said(&self, is_silent: bool) -> &str {
+        if is_silent { "" } else { self.lines.as_str() }
     }
 
     /// Goes through the events of a command to its end, or to the call that fails and stops it, and answers the status.
-    fn goes_through(&mut self, command: &Command<'_>, call: Call) -> Result<u8, Fail> {
+    fn goes_through<'a>(&mut self, command: &Command<'a>, call: Call) -> Result<&'a str, Fail> {
         for events in command.events {
             for event in *events {
                 if !self.goes_on(call, event)? {
@@ -206,151 +197,65 @@ impl Front {
     }
 }
 
-/// What a command comes to where its call of a kind and a number fails: a fold over its events.
-fn expected(
-    alloc: Global,
-    command: &Command<'_>,
+/// The call of a run that fails: its kind and its number.
+#[derive(Clone, Copy)]
+struct Failure {
     call: Call,
     number: u64,
-) -> Result<Outcome, Fail> {
-    let mut front = Front::make(alloc, number);
-    let status = front.goes_through(command, call)?;
-    let lines = if command.is_silent {
-        ""
-    } else {
-        front.lines.as_str()
-    };
-    Ok(Outcome {
-        shown: format!(in alloc; "{status} {lines}")?,
-        exchanges: front.exchanges,
-        replies: front.replies,
-    })
 }
 
-/// The numbers of the calls of one kind that fail, where this call fails.
-fn failing(alloc: Global, kind: Call, call: Call, number: u64) -> Result<Seq<u64>, Fail> {
-    let mut numbers = Seq::new(alloc);
-    if kind == call {
-        numbers.push(number)?;
+impl Failure {
+    /// The numbers of the calls of a kind that fail.
+    fn of(&self, kind: Call) -> &[u64] {
+        if kind == self.call {
+            slice::from_ref(&self.number)
+        } else {
+            &[]
+        }
     }
-    Ok(numbers)
+
+    /// The same in a session that comes behind these events.
+    fn behind(&self, events: &[Event<'_>]) -> Failure {
+        Failure {
+            call: self.call,
+            number: self.number.saturating_sub(calls_in(events, self.call)),
+        }
+    }
+
+    /// A session of so many requests, and of this behind them, of which this call fails.
+    fn session<'a>(&'a self, times: usize, rest: &'a [u8]) -> Session<'a> {
+        Session {
+            request: GROW,
+            times,
+            rest,
+            reads: self.of(Call::Take),
+            writes: self.of(Call::Reply),
+        }
+    }
+
+    /// A link to a server of the service, of which this call fails.
+    fn link(&self, is_child: bool) -> Waiting<'_> {
+        Waiting {
+            is_child,
+            service: SERVICE,
+            exchanges: self.of(Call::Exchange),
+        }
+    }
 }
 
 /// The files `p` and `s`.
-fn files_of(alloc: Global, call: Call, number: u64) -> Result<MemoryFiles, Fail> {
-    let program = on_files(alloc, MAIN)?;
-    let mut files = MemoryFiles::make(alloc, failing(alloc, Call::Read, call, number)?);
-    files.add("p", program.as_str().as_bytes())?;
-    files.add("s", SERVICE.as_bytes())?;
-    Ok(files)
-}
+const TEXTS: &[Text<'static>] = &[("p", FILES, MAIN), ("s", "", SERVICE)];
 
-/// A link to a server of the service.
-fn link_of(alloc: Global, call: Call, number: u64) -> Result<FailingLink, Fail>
-    ensures { IfOk result (λ link. link.faults ≡ 0) }
-{
-    let exchanges = failing(alloc, Call::Exchange, call, number)?;
-    Ok(FailingLink::make(alloc, host_of(alloc, SERVICE)?, exchanges)?)
-}
-
-/// A Dial with such a link under the address `a`, and one to the child of `s`.
-fn dial_of(alloc: Global, call: Call, number: u64) -> Result<MemoryDial<FailingLink>, Fail> {
-    let mut dial = MemoryDial::make(alloc, failing(alloc, Call::Dial, call, number)?);
-    let address = Target::Address(Seq::from_slice(alloc, b"a")?);
-    dial.add(address, link_of(alloc, call, number)?)?;
-    let child = Target::Child(Seq::from_slice(alloc, b"s")?);
-    dial.add(child, link_of(alloc, call, number)?)?;
-    Ok(dial)
-}
-
-/// A session of so many requests and a front of one more, of which the read or the write of a number fails.
-fn session_of(
-    alloc: Global,
-    requests: usize,
-    rest: &[u8],
-    call: Call,
-    number: u64,
-) -> Result<Coming, Fail> {
-    let mut bytes = Seq::new(alloc);
-    for _ in 0..requests {
-        bytes.extend_from_slice(GROW)?;
-    }
-    bytes.extend_from_slice(rest)?;
-    Ok(Coming {
-        bytes,
-        reads: failing(alloc, Call::Take, call, number)?,
-        writes: failing(alloc, Call::Reply, call, number)?,
-    })
-}
-
-/// The session that is whole, and the one that is cut, whose calls are counted on from those of the first.
-fn sessions_of(alloc: Global, call: Call, number: u64) -> Result<Seq<Coming>, Fail> {
-    let later = number.saturating_sub(calls_in(WHOLE, call));
-    let mut sessions = Seq::new(alloc);
-    sessions.push(session_of(alloc, 3, b"", call, number)?)?;
-    sessions.push(session_of(alloc, 1, &GROW[..5], call, later)?)?;
-    Ok(sessions)
-}
-
-/// A listener at `a` and at `-` with these sessions.
-fn listen_of(alloc: Global, call: Call, number: u64) -> Result<MemoryListen, Fail> {
-    let mut addresses = Seq::new(alloc);
-    for address in [b"a", b"-"] {
-        let sessions = sessions_of(alloc, call, number)?;
-        addresses.push((Seq::from_slice(alloc, address)?, sessions))?;
-    }
-    let calls = failing(alloc, Call::Listen, call, number)?;
-    Ok(MemoryListen::make(alloc, addresses, calls, usize::MAX))
-}
-
-/// The replies that were written in the sessions that came back.
-fn replies_to(alloc: Global, listen: &MemoryListen) -> Result<Seq<u8>, Fail> {
-    let mut replies = Seq::new(alloc);
+/// Whether these bytes were written in the sessions that came back, one after the other.
+fn are_written(listen: &MemoryListen, replies: &[u8]) -> bool {
+    let mut rest = replies;
     for (_source, sink) in listen.returned() {
-        replies.extend_from_slice(sink.written())?;
+        match rest.strip_prefix(sink.written()) {
+            Some(end) => rest = end,
+            None => return false,
+        }
     }
-    Ok(replies)
-}
-
-/// What a command shows over a Dial and a listener where its call of a kind and a number fails.
-fn shown_over(
-    alloc: Global,
-    words: &str,
-    call: Call,
-    number: u64,
-    dial: &mut MemoryDial<FailingLink>,
-    listen: &mut MemoryListen,
-) -> Result<String, Fail> {
-    let files = files_of(alloc, call, number)?;
-    let writes = failing(alloc, Call::Write, call, number)?;
-    let out = MemorySink::make(alloc, writes, usize::MAX);
-    answer_with(alloc, words, files, out, dial, listen)
-}
-
-/// What a command came to that showed this, by what came back to its Dial and its listener.
-fn outcome_of(
-    alloc: Global,
-    command: &Command<'_>,
-    shown: String,
-    dial: &MemoryDial<FailingLink>,
-    listen: &MemoryListen,
-) -> Result<Outcome, Fail> {
-    if let Some((exchanges, table)) = came_back(dial) {
-        same_table(alloc, command, exchanges, table)?;
-    }
-    Ok(Outcome {
-        shown,
-        exchanges: exchanges_back(dial),
-        replies: replies_to(alloc, listen)?,
-    })
-}
-
-/// What a command comes to where its call of a kind and a number fails.
-fn found(alloc: Global, command: &Command<'_>, call: Call, number: u64) -> Result<Outcome, Fail> {
-    let mut dial = dial_of(alloc, call, number)?;
-    let mut listen = listen_of(alloc, call, number)?;
-    let shown = shown_over(alloc, command.words, call, number, &mut dial, &mut listen)?;
-    outcome_of(alloc, command, shown, &dial, &listen)
+    rest.is_empty()
 }
 
 /// Fails where the table of a link isn't as it is after so many exchanges of a command.
@@ -361,13 +266,29 @@ fn same_table(
     table: Option<&Heap>,
 ) -> Result<(), Fail> {
     let (Some(table), Some(wanted)) = (table, command.tables.get(exchanges)) else {
-        return Err(Fail::new(format_args!("there is no table, by {}", command.words)));
+        return Err(other("link", command.words));
     };
     let shown = print_table(alloc, table)?;
     if shown.as_slice() == wanted.as_bytes() {
         return Ok(());
     }
-    Err(Fail::new(format_args!("{shown:?} in place of {wanted:?}, by {}", command.words)))
+    Err(other("table", command.words))
+}
+
+/// Fails where another link came back to a Dial than one that had so many exchanges of a command, or its table isn't as it is then.
+fn same_link(
+    alloc: Global,
+    command: &Command<'_>,
+    wanted: Option<usize>,
+    dial: &MemoryDial<FailingLink>,
+) -> Result<(), Fail> {
+    match (came_back(dial), wanted) {
+        (None, None) => Ok(()),
+        (Some((pairs, table)), Some(exchanges)) if pairs.len() == exchanges => {
+            same_table(alloc, command, exchanges, table)
+        }
+        _ => Err(other("number of exchanges", command.words)),
+    }
 }
 
 /// How many calls of a kind these events are.
@@ -390,19 +311,51 @@ fn calls_made(command: &Command<'_>, call: Call) -> u64 {
     count
 }
 
+/// Fails where a command comes to something else, over a Dial and a listener, than its events say up to the call of it that fails.
+fn expect_over(
+    alloc: Global,
+    command: &Command<'_>,
+    failure: Failure,
+    front: &mut Front,
+    dial: &mut MemoryDial<FailingLink>,
+    listen: &mut MemoryListen,
+) -> Result<(), Fail> {
+    let waiting = [failure.link(false), failure.link(true)];
+    add_links(alloc, dial, waiting.as_slice())?;
+    let said = front.goes_through(command, failure.call)?;
+    let asked = Asked {
+        words: command.words,
+        texts: TEXTS,
+        reads: failure.of(Call::Read),
+        writes: failure.of(Call::Write),
+        said,
+        rest: front.said(command.is_silent),
+    };
+    expect_on(alloc, &asked, dial, listen, &mut NullStores)?;
+    if !are_written(listen, front.replies.as_slice()) {
+        return Err(other("reply", command.words));
+    }
+    same_link(alloc, command, front.exchanges, dial)
+}
+
+/// Fails where a command comes to something else than is wanted where a call of it fails: over a Dial, and over a listener at `a` and
+/// at `-` with a session that is whole and one that is cut.
+fn expect_failure(alloc: Global, command: &Command<'_>, failure: Failure) -> Result<(), Fail> {
+    let later = failure.behind(WHOLE);
+    let sessions = [failure.session(3, b""), later.session(1, b"RB\x01\x00\x00")];
+    let calls = failure.of(Call::Listen);
+    let mut listen = listen_of(alloc, &["a", "-"], sessions.as_slice(), calls, usize::MAX)?;
+    let mut dial = MemoryDial::make(alloc, Seq::from_slice(alloc, failure.of(Call::Dial))?);
+    let mut front = Front::make(alloc, failure.number);
+    expect_over(alloc, command, failure, &mut front, &mut dial, &mut listen)
+}
+
 /// Fails at the first call of a kind that, where it fails, has a command come to something else than is wanted. One call more is
 /// tried than the command makes.
 fn expect_calls(alloc: Global, command: &Command<'_>, call: Call) -> Result<(), Fail> {
     let count = calls_made(command, call).saturating_add(1);
     for number in 1..=count {
-        let wanted = expected(alloc, command, call, number)?;
-        let found = found(alloc, command, call, number)?;
-        if found != wanted {
-            return Err(Fail::new(format_args!(
-                "{found:?} in place of {wanted:?}, by {}, where {call:?} {number} fails",
-                command.words
-            )));
-        }
+        expect_failure(alloc, command, Failure { call, number })?;
     }
     Ok(())
 }

@@ -1,36 +1,17 @@
 // Replies that are refused, over frames in memory.
 
-use crate::commands::commands::{answer_over, on_files};
+use crate::client::runs::frame_link;
+use crate::commands::commands::expect_run;
 use crate::commands::texts::NAMES;
-use rb_base::{MemorySink, MemorySource};
-use rb_session::{FrameLink, MemoryDial, Target};
-use rb_trees::Seq;
 use std::alloc::Global;
 use std::test::Fail;
 
-/// What `run a p` says of the program of two names over a link on which these bytes come.
-pub fn replied(alloc: Global, bytes: &[u8]) -> Result<String, Fail> {
-    let source = MemorySource::make(Seq::from_slice(alloc, bytes)?, Seq::new(alloc), usize::MAX);
-    let sink = MemorySink::make(alloc, Seq::new(alloc), usize::MAX);
-    let mut dial = MemoryDial::make(alloc, Seq::new(alloc));
-    let link = FrameLink::make(alloc, source, sink);
-    dial.add(Target::Address(Seq::from_slice(alloc, b"a")?), link)?;
-    let program = on_files(alloc, NAMES)?;
-    answer_over(alloc, "run a p", &[("p", program.as_str())], &mut dial)
+/// Fails where `run a p` says something else of the program of two names over a link on which these bytes come.
+pub fn expect_reply(alloc: Global, bytes: &[u8], want: &str) -> Result<(), Fail> {
+    expect_run(alloc, NAMES, frame_link(alloc, bytes)?, want)
 }
 
-/// Fails at the first reply of which `run a p` says something else than is wanted.
-fn expect_refusals(alloc: Global, rows: &[(&[u8], &str)]) -> Result<(), Fail> {
-    for (bytes, want) in rows {
-        let shown = replied(alloc, bytes)?;
-        if shown.as_str() != *want {
-            return Err(Fail::new(format_args!("{shown:?} in place of {want:?}, to {bytes:?}")));
-        }
-    }
-    Ok(())
-}
-
-/// Replies to that program, with what is said of each.
+/// Replies to the program of two names, with what is said of each.
 const REFUSED: &[(&[u8], &str)] = &[
     // Nothing comes, a header is cut short, and a payload is.
     (b"", "8 bad reply 0 cut at 0\n"),
@@ -69,5 +50,8 @@ const REFUSED: &[(&[u8], &str)] = &[
 
 #[test]
 fn a_reply_is_refused_for_its_reason(rt: HostRuntime) -> Result<(), Fail> {
-    expect_refusals(rt.alloc(), REFUSED)
+    for (bytes, want) in REFUSED {
+        expect_reply(rt.alloc(), bytes, want)?;
+    }
+    Ok(())
 }

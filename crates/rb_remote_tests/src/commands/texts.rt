@@ -1,15 +1,6 @@
 // Programs, services, requests and replies of the tests.
 
-ghost use Rattle.std.specs.Prelude.{IfOk};
-ghost use Rattle.rb_session.specs.Answering.{IsTypedHost};
-
-use rb_code::classes_differ;
-use rb_exec::Host;
-use rb_store::read_service;
-use std::alloc::Global;
-use std::test::Fail;
-
-/// Two lines of interfaces of files.
+/// Two lines of interfaces of files, behind which the text of a program on files begins.
 pub const FILES: &str =
     "interface File { fun name(): Text; fun size(): Int; fun grow(by: Int); fun check(max: Int); fun rename(to: Text); }\ninterface Dir { fun files(): Rows<File>; fun file(i: Int): File; fun burn(n: Int); }\n";
 
@@ -33,6 +24,10 @@ pub const TABLE: &str =
 pub const NAMES: &str =
     "main { batch (Dir r) { print(r.file(0).name()); print(r.file(1).name()); } }";
 
+/// A program that prints a size in one batch, and again in another.
+pub const TWICE: &str =
+    "main { batch (Dir r) { print(r.file(0).size()); } batch (Dir r) { print(r.file(0).size()); } }";
+
 /// A program of one call, and a service for it.
 pub const CALL: &str = "interface D { fun n(): Int; } main { batch (D r) { print(r.n()); } }";
 
@@ -48,13 +43,9 @@ pub const NOTHING: &[u8] = b"RB\x01\x00\x00\x00\x00\x00\x00\x00\x06\x01\x00\x00\
 
 pub const NOTHING_REPLY: &[u8] = b"RB\x02\x00\x00\x00\x00\x00\x00\x00\x06\x01\x00\x00\x00\x00\x00";
 
-/// The host of a service's text.
-pub fn host_of(alloc: Global, text: &str) -> Result<Host, Fail>
-    ensures { IfOk result IsTypedHost }
-{
-    let (service, table) = read_service(alloc, text.as_bytes())?;
-    if classes_differ(alloc, service.classes.as_slice())? {
-        return Ok(Host::make(alloc, service, table)?);
-    }
-    Err(Fail::new("two classes or methods have one name"))
-}
+/// Two frames of such replies.
+pub const NOTHING_REPLIES: &[u8] =
+    b"RB\x02\x00\x00\x00\x00\x00\x00\x00\x06\x01\x00\x00\x00\x00\x00RB\x02\x00\x00\x00\x00\x00\x00\x00\x06\x01\x00\x00\x00\x00\x00";
+
+/// A service without a root.
+pub const ROOTLESS: &str = "class D { } root 0;";

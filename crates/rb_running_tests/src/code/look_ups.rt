@@ -4,7 +4,7 @@ use crate::code::classes::{code_in, code_of};
 use crate::told::{add_number, expect};
 use rb_code::Code;
 use rb_parse::parse_program;
-use rb_trees::{Class, Memory, Method, Program, ReadError, Seq, Word};
+use rb_trees::{Class, Memory, Program, ReadError, Seq, Word};
 use std::alloc::Global;
 use std::test::Fail;
 
@@ -72,75 +72,54 @@ fn classes_and_methods_are_found_by_name(rt: HostRuntime) -> Result<(), Fail> {
     expect(TEXT, told.as_slice(), FOUND)
 }
 
-/// Adds a class of a number, with the methods f, g and h.
-fn add_class(alloc: Global, number: i64, into: &mut Word) -> Result<(), Memory> {
-    add_number(alloc, "class C", number, into)?;
-    into.extend_from_slice(b" { fun f() { } fun g() { } fun h() { } } ")
-}
-
-/// Adds a program of 300 classes, from C0 on.
+/// Adds a program of 300 classes, from C0 on, each with the methods f, g and h.
 fn add_classes(alloc: Global, into: &mut Word) -> Result<(), Memory> {
     for number in 0..300i64 {
-        add_class(alloc, number, into)?;
+        add_number(alloc, "class C", number, into)?;
+        into.extend_from_slice(b" { fun f() { } fun g() { } fun h() { } } ")?;
     }
     into.extend_from_slice(b"main { }")
-}
-
-fn are_found(code: &Code, class: &[u8], methods: &[Method]) -> bool {
-    for method in methods {
-        let signature = &method.signature;
-        if at(code, class, signature.name.as_slice()) != Some(signature.at) {
-            return false;
-        }
-    }
-    true
 }
 
 /// Whether a class is found with its methods, and no method i.
 fn is_found(code: &Code, class: &Class) -> bool {
     let name = class.name.as_slice();
-    at(code, name, b"") == Some(class.at)
-        && are_found(code, name, class.methods.as_slice())
-        && at(code, name, b"i").is_none()
-}
-
-/// How many classes are found, up to the first that isn't.
-fn count_found(code: &Code, classes: &[Class]) -> usize {
-    for (count, class) in classes.iter().enumerate() {
-        if !is_found(code, class) {
-            return count;
+    for method in class.methods.as_slice() {
+        let signature = &method.signature;
+        if at(code, name, signature.name.as_slice()) != Some(signature.at) {
+            return false;
         }
     }
-    classes.len()
+    at(code, name, b"") == Some(class.at) && at(code, name, b"i").is_none()
 }
 
-/// How many classes code has and how many are found; and whether a class or a method of C300 is.
-fn counts(code: &Code, classes: &[Class]) -> (usize, usize, bool) {
-    let beyond = at(code, b"C300", b"").is_some() || at(code, b"C300", b"f").is_some();
-    (code.classes().len(), count_found(code, classes), beyond)
+/// Whether code has 300 classes, these are found, and no class or method of C300 is.
+fn are_found(code: &Code, classes: &[Class]) -> bool {
+    for class in classes {
+        if !is_found(code, class) {
+            return false;
+        }
+    }
+    let is_beyond = at(code, b"C300", b"").is_some() || at(code, b"C300", b"f").is_some();
+    code.classes().len() == 300 && classes.len() == 300 && !is_beyond
 }
 
 /// The same of the code of a program.
-fn look_ups(alloc: Global, program: &Program) -> Result<(usize, usize, bool), ReadError> {
+fn are_found_in(alloc: Global, program: &Program) -> Result<bool, ReadError> {
     let code = code_of(alloc, program)?;
-    Ok(counts(&code, program.classes.as_slice()))
+    Ok(are_found(&code, program.classes.as_slice()))
 }
 
 /// The same of the program that a text is.
-fn look_ups_in(alloc: Global, text: &[u8]) -> Result<(usize, usize, bool), ReadError> {
+fn are_found_in_text(alloc: Global, text: &[u8]) -> Result<bool, ReadError> {
     let program = parse_program(alloc, text)?;
-    look_ups(alloc, &program)
-}
-
-/// The same of a program of many classes.
-fn many_look_ups(alloc: Global) -> Result<(usize, usize, bool), ReadError> {
-    let mut text = Seq::new(alloc);
-    add_classes(alloc, &mut text)?;
-    look_ups_in(alloc, text.as_slice())
+    are_found_in(alloc, &program)
 }
 
 #[test]
 fn each_of_many_classes_and_methods_is_found(rt: HostRuntime) -> Result<(), Fail> {
-    assert!(rt; many_look_ups(rt.alloc())? == (300, 300, false));
+    let mut text = Seq::new(rt.alloc());
+    add_classes(rt.alloc(), &mut text)?;
+    assert!(rt; are_found_in_text(rt.alloc(), text.as_slice())?);
     Ok(())
 }

@@ -1,9 +1,8 @@
 // Programs with classes: calls, objects, and the order in which their parts are evaluated.
 
-use crate::engine::runs::{Row, expect_asked};
-use std::test::Fail;
+use crate::engine::runs::Row;
 
-static ROWS: [Row; 5] = [
+pub static ROWS: [Row; 5] = [
     (
         "a method calls itself and one declared later",
         "class A { fun sum(n: Int): Int { var s = 0; if (n > 0) { s = this.sum(n - 1) + this.square(n); } return s; } fun square(n: Int): Int { return n * n; } } main { print(new A().sum(3)); }",
@@ -35,8 +34,3 @@ static ROWS: [Row; 5] = [
         "TooDeep\n32\n",
     ),
 ];
-
-#[test]
-fn programs_with_classes_ask_these_lines(rt: HostRuntime) -> Result<(), Fail> {
-    expect_asked(rt.alloc(), &ROWS)
-}

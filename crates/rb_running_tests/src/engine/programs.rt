@@ -1,5 +1,6 @@
 // What no clause says: that programs run well where there is memory.
 
+use crate::engine::classes;
 use crate::engine::runs::{Row, expect_asked};
 use std::test::Fail;
 
@@ -31,6 +32,7 @@ static ROWS: [Row; 4] = [
 ];
 
 #[test]
-fn programs_without_classes_ask_these_lines(rt: HostRuntime) -> Result<(), Fail> {
-    expect_asked(rt.alloc(), &ROWS)
+fn programs_ask_these_lines(rt: HostRuntime) -> Result<(), Fail> {
+    expect_asked(rt.alloc(), &ROWS)?;
+    expect_asked(rt.alloc(), &classes::ROWS)
 }

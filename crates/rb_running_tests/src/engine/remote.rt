@@ -90,13 +90,10 @@ fn expect_codes(alloc: Global, code: &Code) -> Result<(), Fail> {
 }
 
 #[test]
-fn results_are_of_one_kind(rt: HostRuntime) -> Result<(), Fail> {
+fn the_first_check_that_fails_is_told_and_results_are_of_one_kind(
+    rt: HostRuntime,
+) -> Result<(), Fail> {
     let code = code(rt.alloc())?;
+    expect_codes(rt.alloc(), &code)?;
     expect_all_kinds(rt.alloc(), &code)
-}
-
-#[test]
-fn the_first_check_that_fails_is_told(rt: HostRuntime) -> Result<(), Fail> {
-    let code = code(rt.alloc())?;
-    expect_codes(rt.alloc(), &code)
 }

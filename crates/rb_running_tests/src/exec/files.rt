@@ -10,11 +10,7 @@ use rb_store::read_service;
 use rb_trees::{Memory, Script, Seq, Service, StoreError, Value, Version, Word};
 use rb_wire_script::{ScriptStop, decode_script};
 use std::alloc::Global;
-use std::slice;
 use std::test::Fail;
-
-/// A script, and what it gives.
-pub type Row = (&'static str, &'static str);
 
 /// How many bytes a payload has at most.
 const MOST_BYTES: usize = 16_777_216;
@@ -88,8 +84,38 @@ fn add_sizes(alloc: Global, table: &Heap, into: &mut Word) -> Result<(), Memory>
     add_number(alloc, ", ", large, into)
 }
 
+/// The inputs that a script is run with.
+#[derive(Clone, Copy)]
+pub enum Inputs {
+    /// Those of its payload.
+    Own,
+    /// Those of its payload, with an object that isn't there in place of the last, which is the fourth.
+    Changed,
+    Int(i64),
+    None,
+}
+
+/// Puts other inputs in the place of a payload's.
+fn put_inputs(given: Inputs, inputs: &mut Seq<Value>) -> Result<(), Memory> {
+    match given {
+        Inputs::Own => Ok(()),
+        Inputs::Changed => {
+            inputs.truncate(3);
+            inputs.push(Value::Remote(7))
+        }
+        Inputs::Int(number) => {
+            inputs.truncate(0);
+            inputs.push(Value::Int(number))
+        }
+        Inputs::None => {
+            inputs.truncate(0);
+            Ok(())
+        }
+    }
+}
+
 /// Adds the forest that a script gives with these inputs, by its bytes in a version.
-pub fn add_run(
+fn add_run(
     alloc: Global,
     host: &mut Host,
     script: &Script,
@@ -102,31 +128,23 @@ pub fn add_run(
     add_forest(alloc, forest.as_slice(), into)
 }
 
-/// Adds the forest that a script gives. The last of its inputs is an object that isn't there.
-fn add_decoded(
-    alloc: Global,
-    host: &mut Host,
-    script: &Script,
-    inputs: &mut Seq<Value>,
-    into: &mut Word,
-) -> Result<(), Memory> {
-    inputs.truncate(3);
-    inputs.push(Value::Remote(7))?;
-    add_run(alloc, host, script, inputs.as_slice(), Version::One, into)
-}
-
-/// Adds what the script of a payload gives.
-fn add_script(
+/// Adds what the script of a payload gives, with these inputs, by the bytes of its forest in a version.
+pub fn add_script(
     alloc: Global,
     host: &mut Host,
     payload: &[u8],
+    given: Inputs,
+    version: Version,
     into: &mut Word,
 ) -> Result<(), Memory> {
     if payload.len() > MOST_BYTES {
         return into.extend_from_slice(b"too long");
     }
     match decode_script(alloc, payload) {
-        Ok((_version, script, mut inputs)) => add_decoded(alloc, host, &script, &mut inputs, into),
+        Ok((_version, script, mut inputs)) => {
+            put_inputs(given, &mut inputs)?;
+            add_run(alloc, host, &script, inputs.as_slice(), version, into)
+        }
         Err(ScriptStop::Refused { .. }) => into.extend_from_slice(b"no script"),
         Err(ScriptStop::Memory) => Err(Memory),
     }
@@ -136,40 +154,45 @@ fn add_script(
 fn add_given(alloc: Global, host: &mut Host, text: &str, into: &mut Word) -> Result<(), Memory> {
     let mut payload = Seq::new(alloc);
     add_payload(text, &mut payload)?;
-    add_script(alloc, host, payload.as_slice(), into)?;
+    add_script(
+        alloc,
+        host,
+        payload.as_slice(),
+        Inputs::Changed,
+        Version::One,
+        into,
+    )?;
     add_sizes(alloc, host.table(), into)
 }
 
-/// Fails where a script gives something else on a host.
-pub fn expect_given(
-    alloc: Global,
-    host: &mut Host,
-    script: &str,
-    wanted: &str,
-) -> Result<(), Fail> {
+/// Fails where a script gives something else on a host. The space behind the last entry isn't written.
+fn expect_given(alloc: Global, host: &mut Host, script: &str, wanted: &str) -> Result<(), Fail> {
     let mut told = Seq::new(alloc);
     add_given(alloc, host, script, &mut told)?;
-    expect(script, told.as_slice(), wanted)
+    expect(script, told.as_slice().trim_ascii_end(), wanted)
 }
 
-/// Fails where a script gives something else on a host than stands beside it.
-fn expect_rows(alloc: Global, host: &mut Host, rows: &[Row]) -> Result<(), Fail> {
-    for (script, wanted) in rows {
-        expect_given(alloc, host, script, wanted)?;
+/// Fails where a script gives something else on a host than stands behind it on its line.
+fn expect_lines(alloc: Global, host: &mut Host, lines: &str) -> Result<(), Fail> {
+    for line in lines.split('\n') {
+        let (script, wanted) = line.split_once("->").unwrap_or((line, "?"));
+        expect_given(alloc, host, script.trim(), wanted.trim())?;
     }
     Ok(())
 }
 
-/// Fails where a script gives something else than stands beside it. All are run on one host, one after the other.
-pub fn expect_in_turn(alloc: Global, rows: &[Row]) -> Result<(), Fail> {
+/// Fails where a script gives something else than stands behind it. All are run on one host, one after the other.
+pub fn expect_in_turn(alloc: Global, lines: &str) -> Result<(), Fail> {
     let mut host = host(alloc)?;
-    expect_rows(alloc, &mut host, rows)
+    expect_lines(alloc, &mut host, lines)
 }
 
-/// Fails where a script gives something else than stands beside it. Each is run on a host of its own.
-pub fn expect_each(alloc: Global, rows: &[Row]) -> Result<(), Fail> {
-    for row in rows {
-        expect_in_turn(alloc, slice::from_ref(row))?;
+/// Fails where a script gives something else than stands behind it. Each is run on a host of its own. Some lines are comments.
+pub fn expect_each(alloc: Global, lines: &str) -> Result<(), Fail> {
+    for line in lines.split('\n') {
+        if !line.starts_with("//") {
+            expect_in_turn(alloc, line)?;
+        }
     }
     Ok(())
 }

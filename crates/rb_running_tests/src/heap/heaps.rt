@@ -198,11 +198,9 @@ fn expect_rows(alloc: Global, rows: &[Row]) -> Result<(), Fail> {
 }
 
 #[test]
-fn heaps_answer_as_the_list_of_their_objects(rt: HostRuntime) -> Result<(), Fail> {
-    expect_rows(rt.alloc(), &HEAPS)
-}
-
-#[test]
-fn copies_go_on_apart(rt: HostRuntime) -> Result<(), Fail> {
+fn heaps_answer_as_the_list_of_their_objects_and_copies_go_on_apart(
+    rt: HostRuntime,
+) -> Result<(), Fail> {
+    expect_rows(rt.alloc(), &HEAPS)?;
     expect_rows(rt.alloc(), &COPIES)
 }

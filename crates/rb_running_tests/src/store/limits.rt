@@ -29,7 +29,7 @@ static TEXTS: [(&str, &[Piece], &str); 4] = [
             ("7, ", 10_000),
             ("7]]; } root 0;", 1),
         ],
-        "object 0 has a value of another type than its field",
+        "object 0 has a value of another type than its field\n",
     ),
     (
         "lists nest as deep as types do",
@@ -57,7 +57,7 @@ static TEXTS: [(&str, &[Piece], &str); 4] = [
             ("]", 65),
             ("; } root 0;", 1),
         ],
-        "the token at offset 498 nests too deep",
+        "the token at offset 498 nests too deep\n",
     ),
 ];
 

@@ -12,9 +12,9 @@ pub static CLASSES: &str =
 class Shelf { books: List<Book>; best: Book; } \
 class Plan { rows: List<List<Int>>; } ";
 
-/// The message of a refusal.
+/// The message of a refusal, on a line.
 fn message(alloc: Global, refusal: &StoreError) -> Result<Word, Memory> {
-    let text = format!(in alloc; "{refusal}")?;
+    let text = format!(in alloc; "{refusal}\n")?;
     Seq::from_slice(alloc, text.as_bytes())
 }
 
@@ -39,14 +39,21 @@ fn told_behind(alloc: Global, classes: &str, objects: &str) -> Result<Word, Memo
     told(alloc, source.as_slice())
 }
 
-/// Fails where something else is told of objects and a root behind these classes than stands beside them.
-pub fn expect_each(alloc: Global, classes: &str, rows: &[(&str, &str)]) -> Result<(), Fail> {
-    for (objects, wanted) in rows {
-        expect(
-            objects,
-            told_behind(alloc, classes, objects)?.as_slice(),
-            wanted,
-        )?;
+/// Fails where something else is told of objects and a root behind these classes than is wanted and a line feed.
+fn expect_told(alloc: Global, classes: &str, objects: &str, wanted: &str) -> Result<(), Fail> {
+    let told = told_behind(alloc, classes, objects)?;
+    match told.as_slice() {
+        [front @ .., b'\n'] => expect(objects, front, wanted),
+        _ => expect(objects, b"a line without its end", wanted),
+    }
+}
+
+/// Fails where something else is told of objects and a root behind these classes than stands behind them in their row. Rows
+/// are parted by lines `====`, and their parts by lines `----`.
+pub fn expect_each(alloc: Global, classes: &str, rows: &str) -> Result<(), Fail> {
+    for row in rows.split("\n====\n") {
+        let (objects, wanted) = row.split_once("\n----\n").unwrap_or((row, ""));
+        expect_told(alloc, classes, objects, wanted)?;
     }
     Ok(())
 }

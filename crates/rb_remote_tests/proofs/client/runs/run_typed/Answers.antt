@@ -3,5 +3,5 @@ use Rattle.rb_trees.specs.mirror.Declarations.{mirror_program}
 use Rattle.rb_flow.specs.Program.{HasNoRefusal}
 use Rattle.rb_remote_tests.proofs.client.runs.run_typed.Goals as goal
 
-pub run_admitted-requires-clause-none : goal.run_admitted-requires-clause-none
-run_admitted-requires-clause-none g c = subst (λ q. HasNoRefusal (mirror_program q)) (sym c.in-Ok.ensures.typed) c.in-Ok.ensures.admission
+pub run-requires-clause-none : goal.run-requires-clause-none
+run-requires-clause-none g c = subst (λ q. HasNoRefusal (mirror_program q)) (sym c.in-Ok.ensures.typed) c.in-Ok.ensures.admission

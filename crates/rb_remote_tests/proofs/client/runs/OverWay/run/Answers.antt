@@ -1,6 +1,6 @@
 use Rattle.std.proofs.Common.{sym, subst}
 use Rattle.rb_client.specs.Runs.{IsAcceptedWith}
-use Rattle.rb_remote_tests.proofs.client.runs.run_admitted.Goals as goal
+use Rattle.rb_remote_tests.proofs.client.runs.OverWay.run.Goals as goal
 
 pub run_accepted-requires : goal.run_accepted-requires
 run_accepted-requires g c =
