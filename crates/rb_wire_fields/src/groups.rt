@@ -6,6 +6,7 @@ ghost use Rattle.rb_meaning_bytes.specs.formats.Pools.{any_number};
 ghost use Rattle.rb_meaning_bytes.specs.formats.Reading.{look};
 ghost use Rattle.rb_meaning_bytes.specs.formats.Shorts.{read_groups, limit, unfolded};
 ghost use Rattle.rb_trees.specs.Outcome.{Gives};
+ghost use Rattle.rb_wire_fields.specs.Endings.{may_end};
 ghost use Rattle.rb_wire_fields.specs.Stops.{told, is_cut};
 
 use crate::fields::{cut, refused};
@@ -20,40 +21,54 @@ pub(crate) enum NoGroups {
     Wrong,
 }
 
+/// Whether a group below 128 may end a number: `may_end`.
+#[inline(always)]
+fn may_end(last: u8, left: u32, unit: u64, group: u8) -> bool
+    ensures { result ≡ may_end last left unit group }
+{
+    let fits = 0 < left || group < last;
+    fits && (unit == 1 || 0 < group)
+}
+
 /// A number in at most so many groups and a last one, which is below `last` where it is the last that may be.
 #[tactic(auto, using(crate::proofs::Grouping::reading))]
 fn groups(last: u8, more: u32, bytes: &[u8]) -> Result<(u64, &[u8]), NoGroups>
-    requires some { 0 < last }
+    requires some { 1 < last }
     requires last { last ≤ 128 }
     requires bits { limit last more ≤ 2 ^ 64 }
     ensures gives { Gives (λ x. (x.0, x.1.now)) is_cut result (read_groups last more bytes.now) }
     ensures below { IfOk result (λ x. x.0 < limit last more) }
 {
-    let [group, rest @ ..] = bytes else {
-        return Err(NoGroups::Cut);
-    };
-    if more == 0 {
-        return if *group < last {
-            Ok((u64::from(*group), rest))
-        } else {
-            Err(NoGroups::Wrong)
+    // the number so far, what the next group counts, and how many groups may follow it
+    let mut sum: u64 = 0;
+    let mut unit: u64 = 1;
+    let mut left = more;
+    let mut rest = bytes;
+    'groups: loop {
+        let [group, tail @ ..] = rest else {
+            return Err(NoGroups::Cut);
         };
+        if *group < 128 {
+            if !may_end(last, left, unit, *group) {
+                return Err(NoGroups::Wrong);
+            }
+            return Ok((u64::from(*group) * unit + sum, tail));
+        }
+        if left == 0 {
+            return Err(NoGroups::Wrong);
+        }
+        sum += u64::from(*group - 128) * unit;
+        unit *= 128;
+        left -= 1;
+        rest = tail;
     }
-    if *group < 128 {
-        return Ok((u64::from(*group), rest));
-    }
-    let (higher, rest) = groups(last, more - 1, rest)?;
-    if higher == 0 {
-        return Err(NoGroups::Wrong);
-    }
-    Ok((u64::from(*group - 128) + 128 * higher, rest))
 }
 
 /// The same, where one group is read at once.
 #[tactic(auto, using(crate::proofs::Grouping::reading))]
 #[inline(always)]
 fn number(last: u8, more: u32, bytes: &[u8]) -> Result<(u64, &[u8]), NoGroups>
-    requires some { 0 < last }
+    requires some { 1 < last }
     requires last { last ≤ 128 }
     requires more { 0 < more }
     requires bits { limit last more ≤ 2 ^ 64 }

@@ -5,4 +5,4 @@ use Rattle.rb_wire_fields.proofs.groups.number.Goals as goal
 
 pub returns-in-len1-up-clause-below : goal.returns-in-len1-up-clause-below
 returns-in-len1-up-clause-below c =
-    within_one c.args.last c.args.more _ c.requires.some c.requires.more (grind (arith, common_steps))
+    within_one c.args.last c.args.more _ (omega (arith, c.requires.some)) c.requires.more (grind (arith, common_steps))
