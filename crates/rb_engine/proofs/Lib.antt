@@ -4,6 +4,7 @@ pub mod Arguments
 pub mod Blocks
 pub mod BothNumbers
 pub mod Exprs
+pub mod FieldReads
 pub mod Forms
 pub mod Indexed
 pub mod Items

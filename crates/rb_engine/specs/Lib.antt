@@ -1,3 +1,4 @@
+pub mod Accessors
 pub mod Answers
 pub mod Code
 pub mod Ends

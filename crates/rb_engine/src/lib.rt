@@ -7,6 +7,7 @@
 //! What code means stands in `specs/` of `rb_meaning_code`; what is run is proved to be that.
 #![tactic(auto)]
 
+mod accessors;
 mod args;
 mod asking;
 mod calls;

@@ -11,6 +11,7 @@ ghost use Rattle.rb_engine.specs.Ends.{fault_of};
 ghost use Rattle.rb_engine.specs.Methods.{IsMethod, IsMethodOf};
 ghost use Rattle.rb_engine.specs.Remote.{Answers, RepliesAt, server, method_found, arguments_taken, call_checked, found_served, call_invoked};
 
+use crate::accessors::field_given;
 use crate::ends::Failure;
 use crate::engine::call_found;
 use crate::faults::{bad_arguments, kind, no_method, wrong_kind};
@@ -136,7 +137,7 @@ fn at_client(alloc: Global, kind: u8, value: &Value) -> Result<Value, Failure>
 
 // A call that passed its checks, and its result at the client: `served` and `returned`.
 #[inline(never)]
-fn serve(
+fn perform(
     alloc: Global,
     code: &Code,
     state: &mut State,
@@ -163,6 +164,32 @@ fn serve(
         Err(Halt::Memory) => Err(Memory),
         Err(Halt::World(stop)) => Err(stop),
     }
+}
+
+// The same, where a method that only reads a field isn't run.
+fn serve(
+    alloc: Global,
+    code: &Code,
+    state: &mut State,
+    at: u32,
+    kind: u8,
+    checked: Checked<'_>,
+) -> Result<Result<Value, Raised>, Memory>
+    requires idle { state.old.depth ≡ 0 }
+    requires found { IsMethod code.now checked.method.now }
+    ensures replies { let call = checked.entry in
+        let reply = found_served code.now at kind call.object call.method.now call.args (server state.old) in
+        RepliesAt at reply result (server state.new) }
+    ensures depth { state.new.depth ≡ 0 }
+{
+    if state.fuel > 0 {
+        if let Some(value) = field_given(&state.heap, checked.object, &checked.method.body) {
+            let seen = at_client(alloc, kind, value);
+            state.fuel -= 1;
+            return answered(at, seen);
+        }
+    }
+    perform(alloc, code, state, at, kind, checked)
 }
 
 /// A remote call on a service, at a position: `invoke`.

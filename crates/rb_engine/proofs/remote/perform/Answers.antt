@@ -4,7 +4,7 @@ use Rattle.rb_meaning_code.specs.Faults.{raised_remotely}
 use Rattle.rb_meaning_code.specs.Remote.{Stopped}
 use Rattle.rb_engine.specs.Remote.{server}
 use Rattle.rb_engine.proofs.Served.{value_served, fault_served}
-use Rattle.rb_engine.proofs.remote.serve.Goals as goal
+use Rattle.rb_engine.proofs.remote.perform.Goals as goal
 
 pub returns-in-Ok-Ok-clause-replies : goal.returns-in-Ok-Ok-clause-replies
 returns-in-Ok-Ok-clause-replies c =
