@@ -34,7 +34,7 @@ pub fn fuel_used(alloc: Global) -> Fault
 }
 
 /// The value of an input, which has to be there.
-#[inline]
+#[inline(always)]
 pub fn input(alloc: Global, inputs: &[Value], number: u8) -> Result<Value, Failure>
     ensures { Gives (λ v. v) fault_of result (known faults.kind (slice_get inputs.now number)) }
 {
@@ -45,7 +45,7 @@ pub fn input(alloc: Global, inputs: &[Value], number: u8) -> Result<Value, Failu
 }
 
 /// The latest value of a variable, which has to be bound.
-#[inline]
+#[inline(always)]
 pub fn variable(alloc: Global, variables: &Variables, number: u32) -> Result<Value, Failure>
     ensures { Gives (λ v. v) fault_of result (known faults.kind (meant.latest variables.now number)) }
 {
@@ -69,7 +69,7 @@ fn is_primitive(value: &Value) -> bool
 }
 
 /// A value that is kept has to be primitive: `may_keep`.
-#[inline(never)]
+#[inline]
 pub fn may_keep(alloc: Global, keep: bool, value: &Value) -> Result<(), Failure>
     ensures { Gives (λ u. u) fault_of result (meant.may_keep keep value.now) }
 {

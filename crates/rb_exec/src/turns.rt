@@ -63,7 +63,7 @@ impl Run {
 
     // A turn over a row: appends its node. A row that is kept and isn't primitive is the turn's fault, and its only content.
     #[cycle(running)]
-    #[inline(never)]
+    #[inline(always)]
     fn run_turn(&mut self, walk: &Walk<'_>, row: &Value) -> Result<bool, Stop>
         ensures turn { RunsBlock walk.now.site.stage.now.version (turn_run walk.now row.now) self.old result self.new }
         ensures closes { UnlessMemory result (λ stopped. self.new.variables ≡ self.old.variables) }
@@ -82,7 +82,7 @@ impl Run {
 
     // The block of a turn, with its row bound. Its node begins with the row, where rows are kept.
     #[cycle(running)]
-    #[inline(never)]
+    #[inline(always)]
     fn run_row(&mut self, walk: &Walk<'_>, row: &Value) -> Result<bool, Stop>
         ensures turn { let version = walk.now.site.stage.now.version in
             RunsBlock version (kept_row_run walk.now row.now) self.old result self.new }

@@ -52,6 +52,7 @@ pub fn first_version(bytes: &[u8]) -> Result<(Version, &[u8]), Violation>
     }
 }
 
+#[inline(always)]
 fn value_head(version: Version, rest: &[u8]) -> Option<(Head<'_>, &[u8])>
     ensures { option_map seen result ≡ heads.value_at version rest.now }
 {
@@ -61,6 +62,7 @@ fn value_head(version: Version, rest: &[u8]) -> Option<(Head<'_>, &[u8])>
     }
 }
 
+#[inline(always)]
 fn branch_head(rest: &[u8]) -> Option<(Head<'_>, &[u8])>
     ensures { option_map seen result ≡ heads.branch_at rest.now }
 {
@@ -73,6 +75,7 @@ fn branch_head(rest: &[u8]) -> Option<(Head<'_>, &[u8])>
     }
 }
 
+#[inline(always)]
 fn rows_head(rest: &[u8]) -> Option<(Head<'_>, &[u8])>
     ensures { option_map seen result ≡ heads.rows_at rest.now }
 {
@@ -84,6 +87,7 @@ fn rows_head(rest: &[u8]) -> Option<(Head<'_>, &[u8])>
 
 /// The front of the entry that stands first, and the bytes after it; None where there is none.
 #[tactic(auto, unfolding(crate::specs::Fronts::head))]
+#[inline(always)]
 pub fn first_head(version: Version, bytes: &[u8]) -> Option<(Head<'_>, &[u8])>
     ensures { option_map seen result ≡ head version bytes.now }
 {
