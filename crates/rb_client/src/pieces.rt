@@ -106,7 +106,7 @@ fn perform_both<W: Sink>(
 }
 
 /// A part that holds no parts.
-#[inline(never)]
+#[inline(always)]
 pub fn perform_piece<W: Sink>(
     alloc: Global,
     code: &Code,

@@ -138,7 +138,7 @@ pub fn perform_all<W: Sink>(
 
 // The parts of a block on the innermost node, at whose end its names go and the node is closed, by a fault too.
 #[cycle(parts)]
-#[inline(never)]
+#[inline(always)]
 fn perform_block<W: Sink>(
     alloc: Global,
     code: &Code,
@@ -242,7 +242,7 @@ fn perform_turns<W: Sink>(
 
 // A turn on the innermost node, at whose end its names go and the node is closed, by a fault too.
 #[cycle(parts)]
-#[inline(never)]
+#[inline(always)]
 fn perform_turn<W: Sink>(
     alloc: Global,
     code: &Code,
@@ -263,7 +263,7 @@ fn perform_turn<W: Sink>(
 
 // What is performed in a turn, which begins with its row where rows are kept.
 #[cycle(parts)]
-#[inline(never)]
+#[inline(always)]
 fn perform_row<W: Sink>(
     alloc: Global,
     code: &Code,

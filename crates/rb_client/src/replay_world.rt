@@ -83,6 +83,7 @@ impl<'n, 'o, W: Sink> ReplayWorld<'n, 'o, W> {
     }
 
     /// Reads what a step kept: `taken_open`. A text is copied.
+    #[inline(always)]
     pub fn take(&mut self, step: u32) -> Result<Value, Early>
         ensures { Takes (taken_open step (opened self.old.left)) self.old result self.new }
     {
