@@ -75,7 +75,7 @@ fn chosen<'a>(holds: bool, yes: &'a Seq<Part>, no: &'a Seq<Part>) -> &'a Seq<Par
 
 // A part.
 #[cycle(parts)]
-#[inline(never)]
+#[inline(always)]
 fn perform_part<W: Sink>(
     alloc: Global,
     code: &Code,

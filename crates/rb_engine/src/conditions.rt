@@ -19,6 +19,7 @@ use rb_trees::{Fault, Memory, Raised, Seq, Value, Word, copy_word, fault_codes};
 use std::alloc::Global;
 
 /// The truth of a condition's value: `truth_of`.
+#[inline]
 pub fn truth_in(alloc: Global, value: &Value) -> Result<bool, Failure>
     ensures gives { Gives (λ holds. holds) fault_of result (rules.truth_of (out-Value value.now)) }
     ensures memory { NeverWants result }

@@ -41,14 +41,15 @@ mod targets;
 mod units;
 mod world;
 
-pub use conditions::truth_of;
+pub use conditions::{truth_in, truth_of};
 pub use ends::Failure;
 pub use engine::{call, eval, exec, exec_slice};
 pub use faults::PlainFault;
 pub use frame::Frame;
 pub use misses::{Miss, at_place};
-pub use operators::unary;
-pub use pairs::{binary, by_left};
+pub use operand::Operand;
+pub use operators::on_one;
+pub use pairs::{by_left, on_two};
 pub use rb_code::Code;
 pub use remote::invoke;
 pub use server::Server;

@@ -25,6 +25,7 @@ impl From<Memory> for Miss {
 }
 
 /// What a rule gives at a position.
+#[inline(always)]
 pub fn at_place<T>(at: u32, outcome: Result<T, Failure>) -> Result<T, Miss>
     ensures { result ≡ words.at_place at outcome }
 {

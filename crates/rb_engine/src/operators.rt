@@ -109,12 +109,3 @@ pub fn on_one(alloc: Global, op: UnOp, a: &Value) -> Result<Value, Failure>
         UnOp::Str => as_text(alloc, a),
     }
 }
-
-/// What an operator on one operand, which is let go, gives: `on_one`.
-#[inline(never)]
-pub fn unary(alloc: Global, op: UnOp, a: Value) -> Result<Value, Failure>
-    ensures gives { Gives (λ v. v) fault_of result (rules.on_one op (out-Value a)) }
-    ensures memory { WantsOnlyWhere (one_makes op (out-Value a) ≡ true) result }
-{
-    on_one(alloc, op, &a)
-}

@@ -298,12 +298,3 @@ pub fn list_of(alloc: Global, items: Seq<Value>) -> Result<Value, Failure>
     }
     Ok(Value::List(Shared::new(alloc, items)?))
 }
-
-/// What an operator on two operands, which are let go, gives: `on_two`.
-#[inline(never)]
-pub fn binary(alloc: Global, op: BinOp, a: Value, b: Value) -> Result<Value, Failure>
-    ensures gives { Gives (λ v. v) fault_of result (rules.on_two op (out-Value a) (out-Value b)) }
-    ensures memory { WantsOnlyWhere (two_make op (out-Value a) (out-Value b) ≡ true) result }
-{
-    on_two(alloc, op, &a, &b)
-}

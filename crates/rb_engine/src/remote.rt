@@ -55,6 +55,7 @@ fn found_method<'a>(
 }
 
 // The arguments as the service sees them, which have to fit.
+#[inline(always)]
 fn fitting(
     alloc: Global,
     heap: &Heap,
@@ -80,7 +81,7 @@ struct Checked<'a> {
 }
 
 // What is checked before a call: `checked`. It gives the method too, and as many arguments as that has parameters.
-#[inline(never)]
+#[inline(always)]
 fn check<'a>(
     alloc: Global,
     code: &'a Code,
@@ -115,6 +116,7 @@ fn remotely(at: u32, fault: Fault) -> Raised
 }
 
 // What a rule gives, as the answer of a remote call.
+#[inline(always)]
 fn answered(at: u32, outcome: Result<Value, Failure>) -> Result<Result<Value, Raised>, Memory>
     ensures { Answers at outcome result }
 {
@@ -126,6 +128,7 @@ fn answered(at: u32, outcome: Result<Value, Failure>) -> Result<Result<Value, Ra
 }
 
 // The result of a body at the client, which has to be of the kind.
+#[inline(always)]
 fn at_client(alloc: Global, kind: u8, value: &Value) -> Result<Value, Failure>
     ensures { Gives (λ v. v) fault_of result (known faults.wrong_kind (rules.seen_as kind (out-Value value.now))) }
 {
@@ -167,6 +170,7 @@ fn perform(
 }
 
 // The same, where a method that only reads a field isn't run.
+#[inline(always)]
 fn serve(
     alloc: Global,
     code: &Code,
@@ -192,6 +196,31 @@ fn serve(
     perform(alloc, code, state, at, kind, checked)
 }
 
+/// A remote call on a service, whose receiver and arguments are read where they stand: `invoke`. The error is want of memory,
+/// after which nothing is said of the table and the fuel.
+#[inline(always)]
+pub fn invoke_on(
+    alloc: Global,
+    code: &Code,
+    state: &mut State,
+    at: u32,
+    kind: u8,
+    target: &Value,
+    method: &[u8],
+    args: &[Value],
+) -> Result<Result<Value, Raised>, Memory>
+    requires { state.old.depth ≡ 0 }
+    ensures replies { let reply = call_invoked code.now at kind target.now method.now args.now (server state.old) in
+        RepliesAt at reply result (server state.new) }
+    ensures depth { state.new.depth ≡ 0 }
+{
+    match check(alloc, code, &state.heap, target, method, args) {
+        Ok(checked) => serve(alloc, code, state, at, kind, checked),
+        Err(Failure::Fault(fault)) => Ok(Err(remotely(at, fault.into_fault()))),
+        Err(Failure::Memory) => Err(Memory),
+    }
+}
+
 /// A remote call on a service, at a position: `invoke`.
 ///
 /// The receiver, the arguments and the answer are values as the client sees them; the state has the service's table and
@@ -213,9 +242,14 @@ pub fn invoke(
     ensures replies { RepliesAt at (call_invoked code.now at kind target method.now args (server state.old)) result (server state.new) }
     ensures depth { state.new.depth ≡ 0 }
 {
-    match check(alloc, code, &state.heap, &target, method, args.as_slice()) {
-        Ok(checked) => serve(alloc, code, state, at, kind, checked),
-        Err(Failure::Fault(fault)) => Ok(Err(remotely(at, fault.into_fault()))),
-        Err(Failure::Memory) => Err(Memory),
-    }
+    invoke_on(
+        alloc,
+        code,
+        state,
+        at,
+        kind,
+        &target,
+        method,
+        args.as_slice(),
+    )
 }

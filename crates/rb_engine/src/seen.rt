@@ -12,7 +12,7 @@ use rb_trees::{CallKind, Item, Memory, Seq, Shared, Value};
 use std::alloc::Global;
 
 /// A single value of the service as the client sees it, where it is what it has to be: `seen_item`.
-#[inline(never)]
+#[inline]
 pub fn seen_item(item: Item, value: &Value) -> Result<Option<Value>, Memory>
     ensures { IfOk result (λ seen. seen ≡ rules.seen_item (mirror_item item) (out-Value value.now)) }
 {
@@ -119,6 +119,7 @@ fn seen_nothing(value: &Value) -> Option<Value>
     }
 }
 
+#[inline(always)]
 fn seen(alloc: Global, kind: CallKind, value: &Value) -> Result<Option<Value>, Memory>
     ensures { IfOk result (λ seen. seen ≡ rules.seen (mirror_kind kind) (out-Value value.now)) }
 {
@@ -130,7 +131,7 @@ fn seen(alloc: Global, kind: CallKind, value: &Value) -> Result<Option<Value>, M
 }
 
 /// A value of the service as the client sees it, where it is of the kind of this number: `seen_as`.
-#[inline(never)]
+#[inline(always)]
 pub fn seen_as(alloc: Global, number: u8, value: &Value) -> Result<Option<Value>, Memory>
     ensures { IfOk result (λ seen. seen ≡ rules.seen_as number (out-Value value.now)) }
 {

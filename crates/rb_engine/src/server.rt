@@ -8,11 +8,11 @@ ghost use Rattle.rb_engine.specs.Misses.{Replied};
 ghost use Rattle.rb_engine.specs.Servers.{TakesUnit};
 
 use crate::misses::Miss;
-use crate::remote::invoke;
+use crate::remote::invoke_on;
 use crate::state::State;
 use rb_code::Code;
 use rb_heap::Heap;
-use rb_trees::{Seq, Value};
+use rb_trees::Value;
 use std::alloc::Global;
 use std::marker::Model;
 use std::mem;
@@ -92,7 +92,7 @@ impl Server {
         true
     }
 
-    /// A remote call: `invoke`.
+    /// A remote call: `invoke`. The receiver and the arguments are read where they stand.
     #[inline(never)]
     pub fn invoke(
         &mut self,
@@ -100,13 +100,13 @@ impl Server {
         code: &Code,
         at: u32,
         kind: u8,
-        target: Value,
+        target: &Value,
         method: &[u8],
-        args: Seq<Value>,
+        args: &[Value],
     ) -> Result<Value, Miss>
-        ensures { Replied (rules.invoke (map mirror_class code.now) at kind (out-Value target) method.now args self.old) result self.new }
+        ensures { Replied (rules.invoke (map mirror_class code.now) at kind (out-Value target.now) method.now args.now self.old) result self.new }
     {
-        match invoke(alloc, code, &mut self.state, at, kind, target, method, args) {
+        match invoke_on(alloc, code, &mut self.state, at, kind, target, method, args) {
             Ok(Ok(value)) => Ok(value),
             Ok(Err(raised)) => Err(Miss::Fault(at, raised.fault)),
             Err(_) => Err(Miss::Memory),

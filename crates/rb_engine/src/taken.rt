@@ -54,6 +54,7 @@ fn taken_as(heap: &Heap, kind: &TypeTree, value: &Value) -> Result<Option<Value>
 
 /// All arguments as the service sees them, of which there are as many as parameters: `taken_all`.
 #[tactic(auto, using(crate::proofs::Arguments::taken_so))]
+#[inline(always)]
 pub fn taken_all(
     alloc: Global,
     heap: &Heap,

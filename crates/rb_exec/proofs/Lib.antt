@@ -1,9 +1,11 @@
 pub mod Done
 pub mod Dropped
 pub mod Entries
+pub mod Exprs
 pub mod Forms
 pub mod Guided
 pub mod Hosted
+pub mod LentRuns
 pub mod Patched
 pub mod ReadBack
 pub mod Replies

@@ -13,8 +13,8 @@ abbrev mutual
   expr_weight (script.Input n) = 0
   expr_weight (script.Var n) = 0
   expr_weight script.Root = 0
-  expr_weight (script.Unary op at a) = 2 + expr_weight a
-  expr_weight (script.Binary op at a b) = 2 + max (expr_weight a) (expr_weight b)
+  expr_weight (script.Unary op at a) = 3 + expr_weight a
+  expr_weight (script.Binary op at a b) = 4 + max (expr_weight a) (expr_weight b)
   expr_weight (script.Call at kind method target args) = 3 + max (expr_weight target) (exprs_weight args)
 
   pub exprs_weight : SExprs → ℕ

@@ -5,6 +5,7 @@ pub mod Ends
 pub mod Holes
 pub mod Hosted
 pub mod Hosts
+pub mod Lent
 pub mod Places
 pub mod Stages
 pub mod Written

@@ -26,6 +26,7 @@ impl From<Memory> for Stop {
 }
 
 /// What an expression gives to the step of a number.
+#[inline(always)]
 pub fn at_step<T>(id: u32, outcome: Result<T, Miss>) -> Result<T, Stop>
     ensures { result ≡ words.at_step id outcome }
 {

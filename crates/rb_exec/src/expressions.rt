@@ -6,10 +6,11 @@
 ghost use Rattle.rb_engine.specs.Misses.{Replied};
 ghost use Rattle.rb_exec.specs.Stages.{value_run, values_run, unary_run, binary_run, call_run};
 
+use crate::lent::lent;
 use crate::rules::{input, variable};
 use crate::stage::Site;
 use crate::variables::Variables;
-use rb_engine::{Miss, Server, at_place, binary, by_left, unary};
+use rb_engine::{Miss, Operand, Server, at_place, by_left, on_one, on_two};
 use rb_trees::{BinOp, Invocation, Operands, SExpr, Seq, UnOp, Value, copy_value};
 
 /// What the expressions of a step see: where the step stands, and the variables.
@@ -45,6 +46,34 @@ impl Scope<'_> {
         }
     }
 
+    /// The value of a condition. Most conditions are comparisons, so an operator on two operands is evaluated in place.
+    #[inline(always)]
+    pub fn condition_of(&self, server: &mut Server, expr: &SExpr) -> Result<Value, Miss>
+        ensures { Replied (value_run self.now expr.now server.old) result server.new }
+    {
+        match expr {
+            SExpr::Binary(op, place, operands) => {
+                self.operator_value(server, *op, *place, operands.get())
+            }
+            _ => self.value_of(server, expr),
+        }
+    }
+
+    // The value of an operand: lent where it stands already, and evaluated otherwise.
+    #[cycle(evaluating)]
+    #[inline(always)]
+    fn operand_of<'o>(&'o self, server: &mut Server, expr: &'o SExpr) -> Result<Operand<'o>, Miss>
+        ensures { Replied (value_run self.now expr.now server.old) result server.new }
+    {
+        match lent(self, expr) {
+            Some(value) => Ok(Operand::lent(value)),
+            None => {
+                let value = self.value_of(server, expr)?;
+                Ok(Operand::made(value))
+            }
+        }
+    }
+
     // The value of an operator on one operand.
     #[cycle(evaluating)]
     #[inline(never)]
@@ -57,11 +86,35 @@ impl Scope<'_> {
     ) -> Result<Value, Miss>
         ensures { Replied (unary_run self.now op place a.now server.old) result server.new }
     {
-        let value = self.value_of(server, a)?;
-        at_place(place, unary(self.site.stage.alloc, op, value))
+        let value = (&*self).operand_of(server, a)?;
+        at_place(place, on_one(self.site.stage.alloc, op, value.get()))
     }
 
     // The value of an operator on two operands, where the left one may decide.
+    #[cycle(evaluating)]
+    #[inline(always)]
+    fn operator_value(
+        &self,
+        server: &mut Server,
+        op: BinOp,
+        place: u32,
+        operands: &Operands<SExpr>,
+    ) -> Result<Value, Miss>
+        ensures { Replied (binary_run self.now op place operands.now server.old) result server.new }
+    {
+        let alloc = self.site.stage.alloc;
+        let left = (&*self).operand_of(server, &operands.left)?;
+        let decided = at_place(place, by_left(alloc, op, left.get()))?;
+        match decided {
+            Some(value) => Ok(value),
+            None => {
+                let right = (&*self).operand_of(server, &operands.right)?;
+                at_place(place, on_two(alloc, op, left.get(), right.get()))
+            }
+        }
+    }
+
+    // The same, with a place of its own on the machine's stack.
     #[cycle(evaluating)]
     #[inline(never)]
     fn binary_value(
@@ -73,16 +126,7 @@ impl Scope<'_> {
     ) -> Result<Value, Miss>
         ensures { Replied (binary_run self.now op place operands.now server.old) result server.new }
     {
-        let alloc = self.site.stage.alloc;
-        let left = self.value_of(server, &operands.left)?;
-        let decided = at_place(place, by_left(alloc, op, &left))?;
-        match decided {
-            Some(value) => Ok(value),
-            None => {
-                let right = self.value_of(server, &operands.right)?;
-                at_place(place, binary(alloc, op, left, right))
-            }
-        }
+        self.operator_value(server, op, place, operands)
     }
 
     // The value of a remote call.
@@ -98,16 +142,16 @@ impl Scope<'_> {
         ensures { Replied (call_run self.now place kind call.now server.old) result server.new }
     {
         let stage = self.site.stage;
-        let receiver = self.value_of(server, &call.target)?;
+        let receiver = (&*self).operand_of(server, &call.target)?;
         let values = self.values_of(server, call.args.as_slice())?;
         server.invoke(
             stage.alloc,
             stage.code,
             place,
             kind,
-            receiver,
+            receiver.get(),
             call.method.get().as_slice(),
-            values,
+            values.as_slice(),
         )
     }
 

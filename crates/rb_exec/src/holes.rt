@@ -10,6 +10,7 @@ use rb_trees::Memory;
 use rb_wire_fields::puts::put_number;
 
 /// Counts one more, by 32 bits.
+#[inline(always)]
 pub fn add_one(count: &mut u32)
     ensures { count.new ≡ (count.old + 1) % 2 ^ 32 }
 {
@@ -17,6 +18,7 @@ pub fn add_one(count: &mut u32)
 }
 
 /// Leaves room for a count at the end of a buffer, and gives its place.
+#[inline]
 pub fn leave_hole(bytes: &mut BytesMut) -> Result<usize, Memory>
     ensures at { IfOk result (λ at. at ≡ length bytes.old.items) }
     ensures ok { OnOk result (bytes.new.items ≡ bytes.old.items ++ number 0) }
@@ -42,6 +44,7 @@ fn put_over(all: &mut [u8], at: usize, count: u32)
 }
 
 /// Puts a count into the room that was left for it.
+#[inline]
 pub fn fill(bytes: &mut BytesMut, at: usize, count: u32)
     requires { at + 4 ≤ length bytes.old.items }
     ensures { bytes.new.items ≡ filled at (number count) bytes.old.items }

@@ -12,6 +12,7 @@ mod ends;
 mod expressions;
 mod holes;
 mod host;
+mod lent;
 mod nodes;
 mod places;
 mod rules;

@@ -50,7 +50,25 @@ impl Site<'_> {
         at_step(self.id, scope.value_of(server, expr))
     }
 
+    /// The value of a condition in the step.
+    #[inline(always)]
+    pub fn condition(
+        self,
+        variables: &Variables,
+        server: &mut Server,
+        expr: &SExpr,
+    ) -> Result<Value, Stop>
+        ensures { Gets self.entry.id (site_value self.entry variables.now expr.now server.old) result server.new }
+    {
+        let scope = Scope {
+            site: self,
+            variables,
+        };
+        at_step(self.id, scope.condition_of(server, expr))
+    }
+
     /// What a rule gives at the position of the step.
+    #[inline(always)]
     pub fn ruled<T>(self, outcome: Result<T, Failure>) -> Result<T, Stop>
         ensures { result ≡ at_step self.entry.id (at_place self.entry.at outcome) }
     {

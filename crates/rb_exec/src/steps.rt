@@ -14,7 +14,7 @@ use crate::rules::{if_kept, input_items, may_keep, rows_in};
 use crate::run::Run;
 use crate::stage::{Site, Stage};
 use crate::turns::{Walk, end_turns};
-use rb_engine::truth_of;
+use rb_engine::truth_in;
 use rb_trees::{SExpr, Seq, Step, StepForm, Value};
 
 // The block that a condition chooses.
@@ -65,7 +65,7 @@ impl Run {
 
     // A step.
     #[cycle(running)]
-    #[inline(never)]
+    #[inline(always)]
     fn run_step(&mut self, stage: &Stage<'_>, entries: &mut u32, step: &Step) -> Result<(), Stop>
         ensures { let version = stage.now.version in
             Runs version (step_run stage.now step.now) entries.old self.old result entries.new self.new }
@@ -162,8 +162,8 @@ impl Run {
         ensures { let version = site.entry.stage.now.version in
             Runs version (if_run site.entry test.now yes.now no.now) entries.old self.old result entries.new self.new }
     {
-        let value = site.value(&self.variables, &mut self.server, test)?;
-        let holds = site.ruled(truth_of(site.stage.alloc, value))?;
+        let value = site.condition(&self.variables, &mut self.server, test)?;
+        let holds = site.ruled(truth_in(site.stage.alloc, &value))?;
         let steps = chosen(holds, yes, no);
         let count = self.variables.count();
         put_branch(holds, &mut self.bytes)?;

@@ -105,10 +105,15 @@ impl<'a> RemoteWorld<'a> {
     {
         let kind = self.stage.typed().call_kind(at).number();
         let service = self.stage.service();
-        match self
-            .server
-            .invoke(self.alloc, service, at, kind, target, method, args)
-        {
+        match self.server.invoke(
+            self.alloc,
+            service,
+            at,
+            kind,
+            &target,
+            method,
+            args.as_slice(),
+        ) {
             Ok(value) => Ok(Ok(value)),
             Err(Miss::Fault(at, fault)) => Ok(Err(Raised {
                 fault,

@@ -131,6 +131,7 @@ impl<'a> Cursor<'a> {
     }
 
     /// Opens the next node of the innermost Rows. Else nothing changes.
+    #[inline]
     pub fn turn(&mut self) -> bool
         ensures { Moves next_turn (opened self.old) result (opened self.new) }
     {
@@ -172,6 +173,7 @@ impl<'a> Cursor<'a> {
     }
 
     /// Whether the innermost is a node with an entry left.
+    #[inline(always)]
     pub(crate) fn has_entry(&self) -> bool
         ensures { result ≡ has_entry (opened self.now) }
     {
@@ -183,6 +185,7 @@ impl<'a> Cursor<'a> {
     }
 
     /// The step of the fault of the innermost node, where no entries of it are left. The fault's text isn't looked at.
+    #[inline(always)]
     pub(crate) fn fault_step(&self) -> Option<u32>
         ensures { result ≡ step_of (next_fault (opened self.now)) }
     {

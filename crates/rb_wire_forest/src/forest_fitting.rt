@@ -1,4 +1,7 @@
 // Whether a forest in its bytes fits a remainder.
+//
+// One function of the machine's stack stands for the parts of a node, and one for the turns of a loop. What stands between them
+// is inlined, since where a walk stands would go through memory at each call.
 
 ghost use Rattle.std.specs.Prelude.{◌≡◌, Ok};
 ghost use Rattle.rb_trees.specs.Outcome.{Gives};
@@ -20,6 +23,7 @@ use rb_trees::{Part, Seq};
 
 /// The walk behind a part, or the step that doesn't fit.
 #[cycle(forest_parts)]
+#[inline(always)]
 fn read_part(
     part: &Part,
     cursor: &mut Cursor<'_>,
@@ -64,6 +68,7 @@ fn read_part(
 
 /// The walk behind parts in order, up to a fault.
 #[cycle(forest_parts)]
+#[inline(never)]
 fn read_parts(
     parts: &[Part],
     cursor: &mut Cursor<'_>,
@@ -84,6 +89,7 @@ fn read_parts(
 
 /// The walk behind the innermost node, in which the parts are read. The node is closed.
 #[cycle(forest_parts)]
+#[inline(always)]
 fn read_node(
     parts: &[Part],
     cursor: &mut Cursor<'_>,
@@ -105,6 +111,7 @@ fn read_node(
 
 /// The walk behind the next turn of the innermost Rows.
 #[cycle(forest_parts)]
+#[inline(always)]
 fn read_turn(
     body: &[Part],
     step: u32,
@@ -123,6 +130,7 @@ fn read_turn(
 /// The walk behind a loop with this body, whose Rows, with so many turns, is innermost. The Rows is closed. A turn behind a
 /// fault is left over.
 #[cycle(forest_parts)]
+#[inline(never)]
 fn read_turns(
     body: &[Part],
     step: u32,
@@ -148,6 +156,7 @@ fn read_turns(
 
 /// The walk behind a loop over a list of so many items, whose Rows, with so many turns, is innermost. The Rows is closed.
 #[cycle(forest_parts)]
+#[inline(never)]
 fn read_list(
     body: &[Part],
     step: u32,

@@ -26,6 +26,7 @@ pub(crate) struct Progress {
 }
 
 /// The walk of a node begins.
+#[inline(always)]
 pub(crate) fn begin(spare: bool) -> Progress
     ensures { Begins spare result }
 {
@@ -37,6 +38,7 @@ pub(crate) fn begin(spare: bool) -> Progress
 }
 
 /// The walk where the node's fault is raised.
+#[inline(always)]
 fn raise(from: Progress) -> Progress
     ensures { Raises from result }
 {
@@ -48,6 +50,7 @@ fn raise(from: Progress) -> Progress
 }
 
 /// Whether something is left over where the walk ends.
+#[inline(always)]
 pub(crate) fn leaves(cursor: &Cursor<'_>, end: Progress) -> bool
     ensures { InNode (opened cursor.now) (λ es f. result ≡ meaning.leaves (walk_of end es f)) }
 {
@@ -61,6 +64,7 @@ pub(crate) fn leaves(cursor: &Cursor<'_>, end: Progress) -> bool
 }
 
 /// Whether the node's fault is at the step, with no entry left before it.
+#[inline(always)]
 pub(crate) fn faults_at(cursor: &Cursor<'_>, from: Progress, step: u32) -> bool
     ensures { InNode (opened cursor.now) (λ es f. result ≡ meaning.faults_at step (walk_of from es f)) }
 {
@@ -74,6 +78,7 @@ pub(crate) fn faults_at(cursor: &Cursor<'_>, from: Progress, step: u32) -> bool
 }
 
 /// The walk behind a step that gives no entry.
+#[inline(always)]
 pub(crate) fn pass(cursor: &Cursor<'_>, from: Progress, step: u32) -> Progress
     ensures { InNode (opened cursor.now) (λ es f. Ok (walk_of result es f) ≡ meaning.passed step (walk_of from es f)) }
 {
@@ -98,6 +103,7 @@ pub(crate) fn miss(cursor: &Cursor<'_>, from: Progress, step: u32) -> Result<Pro
 
 /// Whether a primitive value is of this kind.
 #[tactic(auto, using(crate::proofs::Walked::values))]
+#[inline(always)]
 fn has_kind(value: &texts::Item<'_>, kind: u8) -> bool
     ensures { result ≡ meaning.form_has_kind kind (out-Value (value_seen value.now)) }
 {
@@ -109,6 +115,7 @@ fn has_kind(value: &texts::Item<'_>, kind: u8) -> bool
 }
 
 /// The walk behind a value of this kind.
+#[inline(always)]
 pub(crate) fn read_value(
     cursor: &mut Cursor<'_>,
     from: Progress,
@@ -130,6 +137,7 @@ pub(crate) fn read_value(
 }
 
 /// The walk behind the row that a turn's node begins with, where rows are kept.
+#[inline(always)]
 pub(crate) fn read_row(
     cursor: &mut Cursor<'_>,
     from: Progress,

@@ -162,6 +162,7 @@ pub fn end(version: Version, bytes: &[u8]) -> Result<(Option<LentFault<'_>>, &[u
 }
 
 /// The step of the fault that a node ends with, whose text isn't looked at.
+#[inline]
 pub fn end_step(version: Version, bytes: &[u8]) -> Option<u32>
     ensures { EndsAt version bytes.now result }
 {

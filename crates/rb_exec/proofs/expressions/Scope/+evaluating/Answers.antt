@@ -1,8 +1,11 @@
 -- Each form of an expression gives what it means.
 use Rattle.std.proofs.Common.{refl, arith, ap, sym, ◌∙◌}
+use Rattle.std.specs.Prelude.{Ok}
+use Rattle.std.specs.Option.{option_copied}
 use Rattle.rb_meaning_code.specs.Remote.{Got}
 use Rattle.rb_exec.proofs.Forms.{lit_form, input_form, var_form, root_form, unary_form, binary_form, call_form}
-use Rattle.rb_exec.proofs.Replies.{given, ruled, of_form}
+use Rattle.rb_exec.proofs.LentRuns.{lent_run}
+use Rattle.rb_exec.proofs.Replies.{by_result, given, ruled, of_form}
 use Rattle.rb_exec.proofs.Weight.{expr_weight, weight_of, operands_of, invocation_of, expr_in}
 use Rattle.rb_exec.proofs.expressions.Scope.+evaluating.Goals as goal
 
@@ -36,6 +39,10 @@ value_of-returns-in-Binary t c = of_form c.args.self.now c.args.server.now c.arg
 
 pub value_of-returns-in-Call : goal.value_of-returns-in-Call
 value_of-returns-in-Call t c = of_form c.args.self.now c.args.server.now c.args.expr.now (call_form c.args.expr.now _ c.in-Call.is) (rw (← c.get-in-Call.ensures) c.call_value.ensures)
+
+pub operand_of-returns-in-Some : goal.operand_of-returns-in-Some
+operand_of-returns-in-Some t c =
+    by_result (ap Ok c.lent-in-Some.ensures) (lent_run c.args.self.now c.args.expr.now c.args.server.now c.in-Some.value.now (sym c.lent.ensures ∙ ap option_copied c.in-Some.is))
 
 pub values_of-value_of-requires : goal.values_of-value_of-requires
 values_of-value_of-requires t c = let w = expr_in c.args.exprs.now c.exprs.expr-index c.expr-item.result (omega arith) in let e = ap weight_of c.expr-item.is in omega arith

@@ -8,10 +8,16 @@ abbrev pub decreases-value_of : goal.decreases-value_of
 decreases-value_of l = weight_of l.expr.now
 
 abbrev pub decreases-unary_value : goal.decreases-unary_value
-decreases-unary_value l = weight_of l.a.now + 1
+decreases-unary_value l = weight_of l.a.now + 2
+
+abbrev pub decreases-operand_of : goal.decreases-operand_of
+decreases-operand_of l = weight_of l.expr.now + 1
+
+abbrev pub decreases-operator_value : goal.decreases-operator_value
+decreases-operator_value l = operands_of l.operands.now + 2
 
 abbrev pub decreases-binary_value : goal.decreases-binary_value
-decreases-binary_value l = operands_of l.operands.now + 1
+decreases-binary_value l = operands_of l.operands.now + 3
 
 abbrev pub decreases-call_value : goal.decreases-call_value
 decreases-call_value l = invocation_of l.call.now + 2

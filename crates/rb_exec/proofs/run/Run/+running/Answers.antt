@@ -99,12 +99,12 @@ run_walk-returns t c =
 
 pub run_if-returns-in_err-value : goal.run_if-returns-in_err-value
 run_if-returns-in_err-value t c =
-    if_so c.args.site c.args.test.now c.args.yes.now c.args.no.now c.args.self.now.variables c.args.self.now.server (on_fault _ c.value.ensures c.in_err-value.was (search rules))
+    if_so c.args.site c.args.test.now c.args.yes.now c.args.no.now c.args.self.now.variables c.args.self.now.server (on_fault _ c.condition.ensures c.in_err-value.was (search rules))
 
 pub run_if-returns-in_err-holds : goal.run_if-returns-in_err-holds
 run_if-returns-in_err-holds t c =
     if_so c.args.site c.args.test.now c.args.yes.now c.args.no.now c.args.self.now.variables c.args.self.now.server
-    (on_value _ c.value.ensures c.in_ok-value.was (on_fault _ (on_rule _ _ _ c.truth_of.ensures.gives c.ruled.ensures) c.in_err-holds.was (search rules)))
+    (on_value _ c.condition.ensures c.in_ok-value.was (on_fault _ (on_rule _ _ _ c.truth_in.ensures.gives c.ruled.ensures) c.in_err-holds.was (search rules)))
 
 pub run_if-returns-in_err-put_branch : goal.run_if-returns-in_err-put_branch
 run_if-returns-in_err-put_branch t c = want (search rules) c.in_err-put_branch.ensures.err
@@ -115,21 +115,21 @@ run_if-returns-in_err-stopped t c = wanted (search rules) c.in_err-stopped.ensur
 pub run_if-returns-then-stopped : goal.run_if-returns-then-stopped
 run_if-returns-then-stopped t c =
     if_so c.args.site c.args.test.now c.args.yes.now c.args.no.now c.args.self.now.variables c.args.self.now.server
-    (on_value _ c.value.ensures c.in_ok-value.was
-    (on_value _ (on_rule _ _ _ c.truth_of.ensures.gives c.ruled.ensures) c.in_ok-holds.was
+    (on_value _ c.condition.ensures c.in_ok-value.was
+    (on_value _ (on_rule _ _ _ c.truth_in.ensures.gives c.ruled.ensures) c.in_ok-holds.was
     (back_to (c.in_ok-stopped.ensures.closes [] c.args.self.now.variables refl c.count-count.ensures)
     (branch_stopped c.in_ok-holds.holds _ c.args.self.now.bytes.items c.put_branch.new.bytes.items c.run_block.new.self.bytes.items c.args.entries.now c.add_one.new.count c.in_ok-stopped.stopped c.in_ok-put_branch.ensures.ok
-    (branch_run c.args.site c.in_ok-holds.holds c.args.yes.now c.args.no.now c.chosen-steps.result.now c.args.self.now.variables c.value.new.server c.run_block.new.self.server _ _ _ c.chosen-steps.ensures c.in_ok-stopped.ensures.runs)
+    (branch_run c.args.site c.in_ok-holds.holds c.args.yes.now c.args.no.now c.chosen-steps.result.now c.args.self.now.variables c.condition.new.server c.run_block.new.self.server _ _ _ c.chosen-steps.ensures c.in_ok-stopped.ensures.runs)
     c.add_one.ensures c.if-stopped.true))))
 
 pub run_if-returns : goal.run_if-returns
 run_if-returns t c =
     if_so c.args.site c.args.test.now c.args.yes.now c.args.no.now c.args.self.now.variables c.args.self.now.server
-    (on_value _ c.value.ensures c.in_ok-value.was
-    (on_value _ (on_rule _ _ _ c.truth_of.ensures.gives c.ruled.ensures) c.in_ok-holds.was
+    (on_value _ c.condition.ensures c.in_ok-value.was
+    (on_value _ (on_rule _ _ _ c.truth_in.ensures.gives c.ruled.ensures) c.in_ok-holds.was
     (back_to (c.in_ok-stopped.ensures.closes [] c.args.self.now.variables refl c.count-count.ensures)
     (branch_went c.in_ok-holds.holds _ c.args.self.now.bytes.items c.put_branch.new.bytes.items c.run_block.new.self.bytes.items c.args.entries.now c.add_one.new.count c.in_ok-stopped.stopped c.in_ok-put_branch.ensures.ok
-    (branch_run c.args.site c.in_ok-holds.holds c.args.yes.now c.args.no.now c.chosen-steps.result.now c.args.self.now.variables c.value.new.server c.run_block.new.self.server _ _ _ c.chosen-steps.ensures c.in_ok-stopped.ensures.runs)
+    (branch_run c.args.site c.in_ok-holds.holds c.args.yes.now c.args.no.now c.chosen-steps.result.now c.args.self.now.variables c.condition.new.server c.run_block.new.self.server _ _ _ c.chosen-steps.ensures c.in_ok-stopped.ensures.runs)
     c.add_one.ensures c.if-stopped.false))))
 
 pub run_step-run_if-requires : goal.run_step-run_if-requires
