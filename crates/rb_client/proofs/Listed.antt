@@ -146,7 +146,11 @@ items_stop {W = W} {g = g} {classes = classes} {t = t} {whole = whole} v vs {l0 
     by : (x : Early) → Spends t.at before (Err x) after → q ≡ Err x → PerformsItems g classes t whole l0 w0 q (local names after) w
     by (early.Raised r) (none, raises, same) end = subst (λ s. PerformsItems g classes t whole l0 w0 q (local names s) w) (sym same) (items_unspent v vs on none raises end)
     by early.WriteFault h end = absurd h
-    by early.Memory h end = absurd h
+    by early.Memory (none, same) end = subst (λ s. PerformsItems g classes t whole l0 w0 q (local names s) w) (sym same) (record {
+      fuel = on.fuel;
+      depth = on.depth;
+      does = λ gas le out start below ns s long sees. subst (λ z. Does g out start (SeesSomeRows g out start below) (items_over classes t whole ns s.node gas l0 s) z (local names before) w) (sym end) tt;
+    })
 
 -- a turn was performed on the first node that was left
 record Turned {W : Type 0} (g : sinks.Ghosts W) (classes : List class.Class) (t : ListLoop) (whole : List Value) (v : Value) (vs : List Value) (l0 l l2 : Local) (w : ReplayWorld W) (r : Result (Unit {0}) Early) (gas : ℕ) (out : MutBor W) (start : Device (List ℕ)) (below : List Open)

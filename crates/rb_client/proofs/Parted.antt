@@ -23,15 +23,14 @@ use Rattle.rb_base.specs.Devices.{Device}
 use Rattle.rb_base.specs.declared.sinks.Failed.{Failed}
 use Rattle.rb_base.specs.declared.sinks.Sink as sinks
 use Rattle.rb_engine.specs.Code.{stmts_run, value_run}
-use Rattle.rb_engine.specs.Ends as engine
 use Rattle.rb_engine.specs.Meets.{Led, Runs}
-use Rattle.rb_engine.specs.declared.world.Halt.{Halt}
-use Rattle.rb_engine.specs.declared.world.Halt.TheVariants as halt
+use Rattle.rb_engine.specs.declared.ends.End.{End}
+use Rattle.rb_engine.specs.declared.ends.End.TheVariants as end
 use Rattle.rb_wire_forest.specs.Fronts.{end_seen, fault_seen}
 use Rattle.rb_wire_forest.specs.Opens.{Open, AtNode}
 use Rattle.rb_wire_forest.specs.Opened.{opened}
 use Rattle.rb_wire_forest.specs.declared.heads.LentFault.{LentFault}
-use Rattle.rb_client.specs.Ends.{flattened}
+use Rattle.rb_client.specs.Ends.{early_of}
 use Rattle.rb_client.specs.Events.{Adds}
 use Rattle.rb_client.specs.Missed.{fault_open, taken_open}
 use Rattle.rb_client.specs.Walks.{Does, Meaning, Performs, all_meant, bind_meant, both_meant, form_meant, part_meant, pass_meant, plain_meant}
@@ -180,12 +179,12 @@ Leads g out start below handled (Err (early.Raised r)) l w = (Faulted r l ≡ ha
 Leads g out start below handled (Err early.WriteFault) l w = CutsReplay g out start w handled.1.events
 Leads g out start below handled (Err early.Memory) l w = Unit {0}
 
-led_leads : {W A : Type 0} (g : sinks.Ghosts W) (out : MutBor W) (start : Device (List ℕ)) (below : List Open) (d : Run A) (w w' : ReplayWorld W) (s : Seen) (l : Local) (r : Result (Result A Raised) (Halt Failed)) → SeesReplay g out start below w s
-    → Led (within g) d w l (engine.flattened r) w' → Leads g out start below (handle in_replay d s) (flattened r) l w'
-led_leads g out start below d w w' s l (Ok (Ok a)) sees h = told (replay_view g out start below) (within g) in_replay (replay_as g out start below) d w w' s (Ok (Gave a l)) sees h
-led_leads g out start below d w w' s l (Ok (Err f)) sees h = told (replay_view g out start below) (within g) in_replay (replay_as g out start below) d w w' s (Ok (Faulted f l)) sees h
-led_leads g out start below d w w' s l (Err halt.Memory) sees h = tt
-led_leads g out start below d w w' s l (Err (halt.World x)) sees h = told (replay_view g out start below) (within g) in_replay (replay_as g out start below) d w w' s (Err x) sees h
+led_leads : {W A : Type 0} (g : sinks.Ghosts W) (out : MutBor W) (start : Device (List ℕ)) (below : List Open) (d : Run A) (w w' : ReplayWorld W) (s : Seen) (l : Local) (r : Result A (End Failed)) → SeesReplay g out start below w s
+    → Led (within g) d w l r w' → Leads g out start below (handle in_replay d s) (early_of r) l w'
+led_leads g out start below d w w' s l (Ok a) sees h = told (replay_view g out start below) (within g) in_replay (replay_as g out start below) d w w' s (Ok (Gave a l)) sees h
+led_leads g out start below d w w' s l (Err (end.Raised f)) sees h = told (replay_view g out start below) (within g) in_replay (replay_as g out start below) d w w' s (Ok (Faulted f l)) sees h
+led_leads g out start below d w w' s l (Err end.NoMemory) sees h = tt
+led_leads g out start below d w w' s l (Err (end.Stopped x)) sees h = told (replay_view g out start below) (within g) in_replay (replay_as g out start below) d w w' s (Err x) sees h
 
 -- a run and nothing after it is the run
 one_run : {S : Type 0} (h : Handler S) (d : Run (Unit {0})) (s : S) → handle h (next d (λ u l. nothing l)) s ≡ handle h d s
@@ -203,16 +202,16 @@ leads_does g out start below handled (Err early.WriteFault) l w h = λ go adds.
 leads_does g out start below handled (Err early.Memory) l w h = tt
 
 -- a statement
-pub plain_so : {W : Type 0} (g : sinks.Ghosts W) (classes : List class.Class) (x : stmt.Stmt) (xs : List stmt.Stmt) (l l' : Local) (w w' : ReplayWorld W) (r : Result (Result (Unit {0}) Raised) (Halt Failed)) (q : Result (Unit {0}) Early)
-    → xs ≡ x ∷ [] → q ≡ flattened r → Runs (within g) (stmts_run classes xs) (record { local = l; world = w }) (engine.flattened r) (record { local = l'; world = w' }) → Performs g (plain_meant classes x) l w q l' w'
+pub plain_so : {W : Type 0} (g : sinks.Ghosts W) (classes : List class.Class) (x : stmt.Stmt) (xs : List stmt.Stmt) (l l' : Local) (w w' : ReplayWorld W) (r : Result (Unit {0}) (End Failed)) (q : Result (Unit {0}) Early)
+    → xs ≡ x ∷ [] → q ≡ early_of r → Runs (within g) (stmts_run classes xs) (record { local = l; world = w }) r (record { local = l'; world = w' }) → Performs g (plain_meant classes x) l w q l' w'
 plain_so g classes x xs l l' w w' r q one is h = by_result is (record {
   fuel = h.fuel;
   depth = h.depth;
   does = λ gas le out start below s sees.
       let run : Run (Unit {0}) = performs (bodies_of (map mirror_class classes) gas) gas (mirror_stmt x) l in
-      let led = subst (λ ys. Led (within g) (stmts_run classes ys gas l) w l' (engine.flattened r) w') one (h.led gas le) in
-      leads_does g out start below (handle in_replay run s) (flattened r) l' w'
-      (subst (λ y. Leads g out start below y (flattened r) l' w') (one_run in_replay run s)
+      let led = subst (λ ys. Led (within g) (stmts_run classes ys gas l) w l' r w') one (h.led gas le) in
+      leads_does g out start below (handle in_replay run s) (early_of r) l' w'
+      (subst (λ y. Leads g out start below y (early_of r) l' w') (one_run in_replay run s)
       (led_leads g out start below (stmts_run classes (x ∷ []) gas l) w w' s l' r sees led));
 })
 
@@ -299,9 +298,9 @@ both_goes : (classes : List class.Class) (l : Local) (step : ℕ) (name : List �
     → both_meant classes step name e gas l s go ≡ after (handle in_replay (value_run classes e gas l) s) (λ v l1 s1. go (bound name v l1) s1)
 both_goes classes l step name e gas s go is = ap (λ o. unless o own_fault l s (after (handle in_replay (value_run classes e gas l) s) (λ v l1 s1. go (bound name v l1) s1))) is
 
-module _ {W : Type 0} (g : sinks.Ghosts W) (classes : List class.Class) (l l1 : Local) (w w' : ReplayWorld W) (step : ℕ) (name : List ℕ) (e : expr.Expr) (r : Result (Result Value Raised) (Halt Failed)) (t : Result Value Early) (seen : Option LentFault)
+module _ {W : Type 0} (g : sinks.Ghosts W) (classes : List class.Class) (l l1 : Local) (w w' : ReplayWorld W) (step : ℕ) (name : List ℕ) (e : expr.Expr) (r : Result Value (End Failed)) (t : Result Value Early) (seen : Option LentFault)
     (at_step : end_seen seen ≡ fault_open step (opened w.left)) (none : seen ≡ None)
-    (h : Runs (within g) (value_run classes e) (record { local = l; world = w }) (engine.flattened r) (record { local = l1; world = w' })) (so : t ≡ flattened r) where
+    (h : Runs (within g) (value_run classes e) (record { local = l; world = w }) r (record { local = l1; world = w' })) (so : t ≡ early_of r) where
   both_leads : (gas : ℕ) → l.fuel ≤ gas → (out : MutBor W) (start : Device (List ℕ)) (below : List Open) (s : Seen) → SeesReplay g out start below w s → Leads g out start below (handle in_replay (value_run classes e gas l) s) t l1 w'
   both_leads gas le out start below s sees =
       subst (λ x. Leads g out start below (handle in_replay (value_run classes e gas l) s) x l1 w') (sym so) (led_leads g out start below (value_run classes e gas l) w w' s l1 r sees (h.led gas le))

@@ -29,12 +29,13 @@ GivesItems at meant (Err (early.Raised r)) = (f : Fault) × (meant ≡ Err f) ×
 GivesItems at meant (Err early.WriteFault) = ⊥
 GivesItems at meant (Err early.Memory) = Unit {0}
 
--- A unit of fuel was spent, or the want of it is raised at a position, and nothing changed.
+-- A unit of fuel was spent, or the want of it is raised at a position, and nothing changed; nor did it where the fault found
+-- no room.
 abbrev pub Spends : ℕ → State → Result (Unit {0}) Early → State → Type 0
 Spends at before (Ok u) after = (unit_due before.fuel ≡ Ok tt) × (after ≡ record before { fuel = before.fuel - 1 })
 Spends at before (Err (early.Raised r)) after = (unit_due before.fuel ≡ Err fuel_used) × (r ≡ raised fuel_used at) × (after ≡ before)
 Spends at before (Err early.WriteFault) after = ⊥
-Spends at before (Err early.Memory) after = ⊥
+Spends at before (Err early.Memory) after = (unit_due before.fuel ≡ Err fuel_used) × (after ≡ before)
 
 -- a turn over an item, which is bound to its name
 abbrev pub item_meant : List class.Class → ListLoop → Value → Meaning

@@ -84,7 +84,7 @@ fn step_of(ended: Result<(), Early>) -> RunResult<(), RunStop>
 {
     match ended {
         Ok(()) => Ok(Ok(())),
-        Err(Early::Raised(raised)) => Ok(Err(raised)),
+        Err(Early::Raised(raised)) => Ok(Err(raised.into_inner())),
         Err(Early::WriteFault) => Err(Halt::World(RunStop::WriteFault)),
         Err(Early::Memory) => Err(Halt::Memory),
     }

@@ -1,16 +1,19 @@
 // How a remainder ends early.
 
 ghost use Rattle.std.specs.Prelude.{◌≡◌};
-ghost use Rattle.rb_client.specs.Ends.{flattened};
+ghost use Rattle.rb_client.specs.Ends as words;
+ghost use Rattle.rb_client.specs.Ends.{RaisesBy, flattened};
 
 use rb_base::Failed;
-use rb_engine::{Halt, RunResult};
-use rb_trees::{Memory, Raised};
+use rb_engine::{End, Halt, RunResult};
+use rb_trees::{Boxed, Memory, Raised};
+use std::alloc::Global;
 
-/// How a remainder ends early: by a fault, because a write failed, or for want of memory.
+/// How a remainder ends early: by a fault, because a write failed, or for want of memory. The fault is boxed, so that what a
+/// part gives stays small.
 #[derive(Drop)]
 pub enum Early {
-    Raised(Raised),
+    Raised(Boxed<Raised>),
     WriteFault,
     Memory,
 }
@@ -26,15 +29,27 @@ impl From<Memory> for Early {
     }
 }
 
-/// A step with its kinds of end as one.
-pub fn flat<T>(step: RunResult<T, Failed>) -> Result<T, Early>
-    ensures { result ≡ flattened step }
+/// An end by a fault, or for want of memory where the fault finds no room.
+#[inline(never)]
+pub fn raise(alloc: Global, raised: Raised) -> Early
+    ensures { RaisesBy raised result }
 {
-    match step {
-        Ok(Ok(value)) => Ok(value),
-        Ok(Err(raised)) => Err(Early::Raised(raised)),
-        Err(Halt::Memory) => Err(Early::Memory),
-        Err(Halt::World(_)) => Err(Early::WriteFault),
+    match Boxed::new(alloc, raised) {
+        Ok(raised) => Early::Raised(raised),
+        Err(_) => Early::Memory,
+    }
+}
+
+/// How code ended, as the end of a part.
+#[inline(always)]
+pub fn early_of<T>(ended: Result<T, End<Failed>>) -> Result<T, Early>
+    ensures { result ≡ words.early_of ended }
+{
+    match ended {
+        Ok(value) => Ok(value),
+        Err(End::Raised(raised)) => Err(Early::Raised(raised)),
+        Err(End::NoMemory) => Err(Early::Memory),
+        Err(End::Stopped(_)) => Err(Early::WriteFault),
     }
 }
 
@@ -44,7 +59,7 @@ pub fn step_of<T>(outcome: Result<T, Early>) -> RunResult<T, Failed>
 {
     match outcome {
         Ok(value) => Ok(Ok(value)),
-        Err(Early::Raised(raised)) => Ok(Err(raised)),
+        Err(Early::Raised(raised)) => Ok(Err(raised.into_inner())),
         Err(Early::Memory) => Err(Halt::Memory),
         Err(Early::WriteFault) => Err(Halt::World(Failed)),
     }

@@ -9,7 +9,7 @@ ghost use Rattle.rb_engine.specs.Locals.{local};
 ghost use Rattle.rb_client.specs.Lists.{GivesItems, Spends, lack_meant};
 ghost use Rattle.rb_client.specs.Walks.{Performs};
 
-use crate::early::Early;
+use crate::early::{Early, raise};
 use crate::faults::{fuel_used, refuse};
 use crate::replay_world::ReplayWorld;
 use rb_base::Sink;
@@ -50,7 +50,7 @@ fn items_in(alloc: Global, value: &Value, at: u32) -> Result<Shared<Seq<Value>>,
 {
     match value {
         Value::List(items) => Ok(items.share()?),
-        _ => Err(Early::Raised(refuse(alloc, at))),
+        _ => Err(raise(alloc, refuse(alloc, at))),
     }
 }
 
@@ -65,7 +65,7 @@ pub fn items_of(
 {
     match frame.find(list) {
         Some(value) => items_in(alloc, value, at),
-        None => Err(Early::Raised(refuse(alloc, at))),
+        None => Err(raise(alloc, refuse(alloc, at))),
     }
 }
 
@@ -74,7 +74,7 @@ pub fn spend(alloc: Global, state: &mut State, at: u32) -> Result<(), Early>
     ensures { Spends at state.old result state.new }
 {
     if state.fuel == 0 {
-        return Err(Early::Raised(fuel_used(alloc, at)));
+        return Err(raise(alloc, fuel_used(alloc, at)));
     }
     state.fuel -= 1;
     Ok(())

@@ -5,12 +5,12 @@ ghost use Rattle.rb_engine.specs.Locals.{local};
 ghost use Rattle.rb_trees.specs.mirror.Remainders.{mirror_part};
 ghost use Rattle.rb_client.specs.Walks.{Performs, bind_meant, both_meant, is_piece, part_meant, pass_meant, plain_meant};
 
-use crate::early::{Early, flat};
+use crate::early::{Early, early_of};
 use crate::faults::{far_fault, own_fault};
 use crate::replay_world::ReplayWorld;
 use rb_base::Sink;
 use rb_code::Code;
-use rb_engine::{Frame, State, eval, exec_slice};
+use rb_engine::{Frame, State, eval_early, exec_early};
 use rb_trees::{Expr, Part, Stmt, Word};
 use std::alloc::Global;
 use std::slice;
@@ -33,7 +33,7 @@ impl<'a> Twin<'a> {
 }
 
 // A statement.
-#[inline(never)]
+#[inline(always)]
 fn perform_plain<W: Sink>(
     alloc: Global,
     code: &Code,
@@ -45,7 +45,8 @@ fn perform_plain<W: Sink>(
     ensures { let meant = plain_meant code.now stmt.now in
         Performs W.Sink meant (local frame.old state.old) world.old result (local frame.new state.new) world.new }
 {
-    flat(exec_slice(alloc, code, state, frame, world, slice::from_ref(stmt)))
+    let body = slice::from_ref(stmt);
+    early_of(exec_early(alloc, code, state, frame, world, body))
 }
 
 /// The place of a step that gives no entry.
@@ -67,7 +68,7 @@ pub fn perform_pass<W: Sink>(
 }
 
 /// A value that was kept, and is bound.
-#[inline(never)]
+#[inline(always)]
 pub fn perform_bind<W: Sink>(
     alloc: Global,
     state: &State,
@@ -100,7 +101,8 @@ fn perform_both<W: Sink>(
     if let Some(fault) = world.fault_at(twin.step) {
         return Err(Early::Raised(own_fault(alloc, &fault)?));
     }
-    let value = flat(eval(alloc, code, state, frame, world, twin.value))?;
+    let evaluated = eval_early(alloc, code, state, frame, world, twin.value);
+    let value = early_of(evaluated)?;
     frame.bind(alloc, twin.name.as_slice(), value)?;
     Ok(())
 }

@@ -159,7 +159,7 @@ fn perform_block<W: Sink>(
 
 // The branch that the script took.
 #[cycle(parts)]
-#[inline(never)]
+#[inline(always)]
 fn perform_branch<W: Sink>(
     alloc: Global,
     code: &Code,
@@ -220,7 +220,7 @@ fn turn_rows<W: Sink>(
 
 // So many turns over rows that are open, each on the next of their nodes.
 #[cycle(parts)]
-#[inline(never)]
+#[inline(always)]
 fn perform_turns<W: Sink>(
     alloc: Global,
     code: &Code,

@@ -13,7 +13,7 @@ use crate::faults::{far_fault, refuse};
 use crate::lines::whole_line;
 use rb_base::{Failed, Sink, write_whole};
 use rb_engine::{Frame, Halt, RunResult, State, World};
-use rb_trees::{Memory, Raised, Seq, Value};
+use rb_trees::{Boxed, Memory, Raised, Seq, Value};
 use rb_wire_fields::texts::value_of;
 use rb_wire_forest::{Cursor, Forest, LentFault};
 use std::alloc::Global;
@@ -73,12 +73,12 @@ impl<'n, 'o, W: Sink> ReplayWorld<'n, 'o, W> {
     }
 
     /// The fault in place of what a part reads at a step: `missed_open`.
-    pub fn missed(&self, step: u32) -> Result<Raised, Memory>
+    pub fn missed(&self, step: u32) -> Result<Boxed<Raised>, Memory>
         ensures { IfOk result (λ r. r ≡ missed_open step (opened self.now.left)) }
     {
         match self.fault_at(step) {
             Some(fault) => far_fault(self.alloc, &fault),
-            None => Ok(refuse(self.alloc, 0)),
+            None => Boxed::new(self.alloc, refuse(self.alloc, 0)),
         }
     }
 

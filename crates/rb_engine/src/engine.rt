@@ -6,7 +6,7 @@ ghost use Rattle.rb_engine.specs.Ends.{flattened};
 ghost use Rattle.rb_engine.specs.Methods.{IsMethod};
 ghost use Rattle.rb_engine.specs.Worlds.{AnyNames, Effects, Values};
 
-use crate::ends::step_of;
+use crate::ends::{End, step_of};
 use crate::frame::Frame;
 use crate::machine::Machine;
 use crate::state::State;
@@ -64,6 +64,27 @@ pub fn call_found<W: World>(
     machine.call_own_found(at, object, method, args)
 }
 
+/// Runs the statements of a slice in order: `performs_all`. An early end stays in its box.
+pub fn exec_early<W: World>(
+    alloc: Global,
+    code: &Code,
+    state: &mut State,
+    frame: &mut Frame,
+    world: &mut W,
+    body: &[Stmt],
+) -> Result<(), End<W::Stop>>
+    ensures { let meant = stmts_run code.now body.now in
+        Effects W.World meant frame.old state.old world.old result frame.new state.new world.new }
+{
+    let mut machine = Machine {
+        alloc,
+        code,
+        state,
+        world,
+    };
+    machine.run_all(frame, body)
+}
+
 /// Runs statements in order: `performs_all`.
 #[tactic(auto, using(crate::proofs::Wrapped::wrapped))]
 pub fn exec<W: World>(
@@ -77,13 +98,7 @@ pub fn exec<W: World>(
     ensures { let meant = stmts_run code.now body.now in
         Effects W.World meant frame.old state.old world.old (flattened result) frame.new state.new world.new }
 {
-    let mut machine = Machine {
-        alloc,
-        code,
-        state,
-        world,
-    };
-    step_of(machine.run_all(frame, body.as_slice()))
+    step_of(exec_early(alloc, code, state, frame, world, body.as_slice()))
 }
 
 /// Runs the statements of a slice in order: `performs_all`.
@@ -99,13 +114,28 @@ pub fn exec_slice<W: World>(
     ensures { let meant = stmts_run code.now body.now in
         Effects W.World meant frame.old state.old world.old (flattened result) frame.new state.new world.new }
 {
+    step_of(exec_early(alloc, code, state, frame, world, body))
+}
+
+/// The value of an expression: `evaluates`. An early end stays in its box.
+pub fn eval_early<W: World>(
+    alloc: Global,
+    code: &Code,
+    state: &mut State,
+    frame: &Frame,
+    world: &mut W,
+    expr: &Expr,
+) -> Result<Value, End<W::Stop>>
+    ensures { let meant = value_run code.now expr.now in
+        Values W.World meant frame.now state.old world.old result state.new world.new }
+{
     let mut machine = Machine {
         alloc,
         code,
         state,
         world,
     };
-    step_of(machine.run_all(frame, body))
+    machine.value_of(frame, expr)
 }
 
 /// The value of an expression: `evaluates`.
@@ -121,11 +151,5 @@ pub fn eval<W: World>(
     ensures { let meant = value_run code.now expr.now in
         Values W.World meant frame.now state.old world.old (flattened result) state.new world.new }
 {
-    let mut machine = Machine {
-        alloc,
-        code,
-        state,
-        world,
-    };
-    step_of(machine.value_of(frame, expr))
+    step_of(eval_early(alloc, code, state, frame, world, expr))
 }

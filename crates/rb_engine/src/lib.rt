@@ -42,11 +42,11 @@ mod units;
 mod world;
 
 pub use conditions::{truth_in, truth_of};
-pub use ends::Failure;
-pub use engine::{call, eval, exec, exec_slice};
+pub use ends::{End, Failure};
+pub use engine::{call, eval, eval_early, exec, exec_early, exec_slice};
 pub use faults::PlainFault;
 pub use frame::Frame;
-pub use misses::{Miss, at_place};
+pub use misses::{Miss, at_place, missed};
 pub use operand::Operand;
 pub use operators::on_one;
 pub use pairs::{by_left, on_two};

@@ -7,7 +7,7 @@ ghost use Rattle.rb_meaning_code.specs.Remote as rules;
 ghost use Rattle.rb_engine.specs.Misses.{Replied};
 ghost use Rattle.rb_engine.specs.Servers.{TakesUnit};
 
-use crate::misses::Miss;
+use crate::misses::{Miss, missed};
 use crate::remote::invoke_on;
 use crate::state::State;
 use rb_code::Code;
@@ -108,7 +108,7 @@ impl Server {
     {
         match invoke_on(alloc, code, &mut self.state, at, kind, target, method, args) {
             Ok(Ok(value)) => Ok(value),
-            Ok(Err(raised)) => Err(Miss::Fault(at, raised.fault)),
+            Ok(Err(raised)) => Err(missed(alloc, at, raised.fault)),
             Err(_) => Err(Miss::Memory),
         }
     }

@@ -1,10 +1,11 @@
 -- What steps did, where the code does their parts one by one.
-use Rattle.std.proofs.Common.{◌≡◌, refl, sym, ap, ◌∙◌, subst, ℕ, ◌+◌, ◌<◌, ◌≤◌, ◌%◌, ◌^◌, List, [], ◌∷◌, ◌++◌, append_assoc, length, drop, get_or}
+use Rattle.std.proofs.Common.{◌≡◌, inl, inr, refl, sym, ap, ◌∙◌, subst, ℕ, ◌+◌, ◌<◌, ◌≤◌, ◌%◌, ◌^◌, List, [], ◌∷◌, ◌++◌, append_assoc, length, drop, get_or}
 use Rattle.std.proofs.lemmas.List.{drop_all}
-use Rattle.std.specs.Prelude.{Bool, true, false, cond, is_some, Option, None, Some, Result, Ok, Err}
+use Rattle.std.specs.Prelude.{Bool, true, false, cond, is_some, Option, None, Some, Result, Ok, Err, MatchResult}
 use Rattle.rb_trees.specs.Outcome.{Gives, ◌>>◌}
 use Rattle.rb_trees.specs.declared.values.Value.{Value}
 use Rattle.rb_trees.specs.declared.values.Fault.{Fault}
+use Rattle.rb_trees.specs.declared.forests.NodeFault.{NodeFault}
 use Rattle.rb_trees.specs.declared.scripts.Step.{Step}
 use Rattle.rb_trees.specs.declared.scripts.SExpr.{SExpr}
 use Rattle.rb_trees.specs.declared.versions.Version.{Version}
@@ -19,14 +20,14 @@ use Rattle.rb_meaning_code.specs.ScriptRun.{Ground, Vars, PlacedFault, Ran, ende
 use Rattle.rb_wire_fields.specs.Buffers.{Keeps}
 use Rattle.rb_wire_fields.proofs.Kept.{keeps_same, keeps_after}
 use Rattle.rb_engine.specs.Ends as failed
-use Rattle.rb_engine.specs.Misses.{at_place, Means}
+use Rattle.rb_engine.specs.Misses.{Means}
 use Rattle.rb_engine.specs.declared.ends.Failure.{Failure}
 use Rattle.rb_engine.specs.declared.misses.Miss.{Miss}
 use Rattle.rb_engine.specs.declared.misses.Miss.TheVariants as miss
 use Rattle.rb_exec.specs.Holes.{filled}
 use Rattle.rb_exec.specs.Written.{Written, written, AddsEntries, Gains}
 use Rattle.rb_exec.specs.Blocks.{with_entries, Does, Extends, Binds, Did, Closes, WroteNode, Ended, one_value, first_entries}
-use Rattle.rb_exec.specs.Ends.{Gets, at_step, UnlessMemory}
+use Rattle.rb_exec.specs.Ends.{AtStep, Gets, Ruled, StopsBy, UnlessMemory}
 use Rattle.rb_exec.specs.Stages.{Rest, Meaning, ground, site_value, with_first, if_kept, block_run, block_from, step_run, steps_run, if_run, each_run, over_run, row_run, turns_run, walk_run}
 use Rattle.rb_exec.specs.Bindings.{oldest}
 use Rattle.rb_exec.specs.declared.stage.Stage.{Stage}
@@ -109,36 +110,45 @@ pub wanted : {version : Version} {m : Meaning} {before after : Written version} 
 wanted is e k = want (is ∙ ap Err e) k
 
 -- an expression gave its value to the step
-value_at : {A : Type 0} (id : ℕ) (t : Result A Miss) (a : A) → at_step id t ≡ Ok a → t ≡ Ok a
-value_at id (Ok b) a e = let same : b ≡ a = cc e in ap Ok same
-value_at id (Err (miss.Fault at f)) a e = absurd (cc e)
-value_at id (Err miss.Memory) a e = absurd (cc e)
+value_at : {A : Type 0} (id : ℕ) (t : Result A Miss) (r : Result A Stop) (a : A) → AtStep id t r → r ≡ Ok a → t ≡ Ok a
+value_at id (Ok b) r a is e = let same : b ≡ a = cc (is, e) in ap Ok same
+value_at id (Err (miss.Fault at f)) (Ok b) a is e = absurd is
+value_at id (Err (miss.Fault at f)) (Err h) a is e = absurd (cc e)
+value_at id (Err miss.Memory) r a is e = absurd (cc (is, e))
 
 pub on_value : {version : Version} {A : Type 0} {m : Reply A} {t : Result A Stop} {a : A} {s1 s2 : Server} {before after : Written version} {old new : Vars} {r : Result (Unit {0}) Stop} {id : ℕ} (k : A → Server → Meaning)
     → Gets id m t s1 → t ≡ Ok a → Did (k a s1) before old r after new s2 → Did (λ go. on_reply id m (λ b s. k b s go)) before old r after new s2
-on_value {m = m} {a = a} {s1 = s1} {id = id} k h was d =
-    let gave : m ≡ Got a s1 = subst (λ x. Means m x s1) (value_at id h.outcome a (sym h.so ∙ was)) h.replied.means in
+on_value {m = m} {t = t} {a = a} {s1 = s1} {id = id} k h was d =
+    let gave : m ≡ Got a s1 = subst (λ x. Means m x s1) (value_at id h.outcome t a h.so was) h.replied.means in
     as_step (λ go. ap (λ x. on_reply id x (λ b s. k b s go)) gave) d
 
+-- steps that a fault of their node ends, unless its room is wanting
+pub stopped_by : {version : Version} {m : Meaning} (w : Written version) (vars : Vars) (s : Server) (f : NodeFault) (r : Result (Unit {0}) Stop) → MatchResult r (λ u. ⊥) (StopsBy f)
+    → ((go : Rest) → m go ≡ stopped f.step f.at f.fault s) → Did m w vars r w vars s
+stopped_by w vars s f (Ok u) is e = absurd is
+stopped_by w vars s f (Err h) (inl is) e = by_result (ap Err is) (record { does = gains_none w e; binds = extends_itself })
+stopped_by w vars s f (Err h) (inr is) e = want (ap Err is) (keeps_same w.bytes w.bytes refl)
+
 -- it gave none, and the steps are over
-faulted : {version : Version} {A : Type 0} (m : Reply A) (t : Result A Miss) (h : Stop) (s : Server) (before : Written version) (vars : Vars) (id : ℕ) (k : A → Server → Meaning)
-    → Means m t s → at_step id t ≡ Err h → Did (λ go. on_reply id m (λ b s1. k b s1 go)) before vars (Err h) before vars s
-faulted m (Ok a) h s before vars id k d e = absurd (cc e)
-faulted m (Err (miss.Fault at f)) h s before vars id k d e =
-    let same : stop.Fault (record { step = id; at = at; fault = f }) ≡ h = cc e in
-    by_result (ap Err (sym same)) (record { does = gains_none before (λ go. ap (λ x. on_reply id x (λ b s1. k b s1 go)) d); binds = extends_itself })
-faulted m (Err miss.Memory) h s before vars id k d e =
-    let same : stop.Memory ≡ h = cc e in
-    by_result (ap Err (sym same)) (record { does = keeps_same before.bytes before.bytes refl; binds = tt })
+faulted : {version : Version} {A : Type 0} (m : Reply A) (t : Result A Miss) (r : Result A Stop) (h : Stop) (s : Server) (before : Written version) (vars : Vars) (id : ℕ) (k : A → Server → Meaning)
+    → Means m t s → AtStep id t r → r ≡ Err h → Did (λ go. on_reply id m (λ b s1. k b s1 go)) before vars (Err h) before vars s
+faulted m (Ok a) r h s before vars id k d is e = absurd (cc (is, e))
+faulted m (Err (miss.Fault at f)) (Ok b) h s before vars id k d is e = absurd is
+faulted m (Err (miss.Fault at f)) (Err g) h s before vars id k d is e =
+    let same : g ≡ h = cc e in
+    stopped_by before vars s (record { step = id; at = at; fault = f }) (Err h) (subst (StopsBy (record { step = id; at = at; fault = f })) same is) (λ go. ap (λ x. on_reply id x (λ b s1. k b s1 go)) d)
+faulted m (Err miss.Memory) r h s before vars id k d is e =
+    let same : stop.Memory ≡ h = cc (is, e) in
+    want (ap Err (sym same)) (keeps_same before.bytes before.bytes refl)
 
 pub on_fault : {version : Version} {A : Type 0} {m : Reply A} {t : Result A Stop} {h : Stop} {s : Server} {before : Written version} {vars : Vars} {r : Result (Unit {0}) Stop} {id : ℕ} (k : A → Server → Meaning)
     → Gets id m t s → t ≡ Err h → r ≡ Err h → Did (λ go. on_reply id m (λ b s1. k b s1 go)) before vars r before vars s
-on_fault {m = m} {h = h} {s = s} {before = before} {vars = vars} {id = id} k d was e =
-    by_result e (faulted m d.outcome h s before vars id k d.replied.means (sym d.so ∙ was))
+on_fault {m = m} {t = t} {h = h} {s = s} {before = before} {vars = vars} {id = id} k d was e =
+    by_result e (faulted m d.outcome t h s before vars id k d.replied.means d.so was)
 
 -- what a rule gives at the position of a step
-pub on_rule : {A : Type 0} {t : Result A Stop} {s : Server} {id : ℕ} (at : ℕ) (o : Result A Failure) (d : Result A Fault) → Gives (λ a. a) failed.fault_of o d → t ≡ at_step id (at_place at o) → Gets id (replies at d s) t s
-on_rule at o d g is = record { outcome = at_place at o; replied = ruled at o d g refl; so = is }
+pub on_rule : {A : Type 0} {t : Result A Stop} {s : Server} {id : ℕ} (at : ℕ) (o : Result A Failure) (d : Result A Fault) → Gives (λ a. a) failed.fault_of o d → Ruled id at o t → Gets id (replies at d s) t s
+on_rule at o d g is = record { outcome = is.placed; replied = ruled at o d g is.at_place; so = is.at_step }
 
 -- two replies in a step, one after the other
 pub both_replies : {A B : Type 0} (id : ℕ) (m : Reply A) (n : A → Server → Reply B) (k : B → Server → Ran)

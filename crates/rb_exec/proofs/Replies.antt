@@ -1,7 +1,7 @@
 -- How replies follow one another, where the code gets them one by one.
-use Rattle.std.proofs.Common.{◌≡◌, refl, sym, ap, ◌∙◌, subst, ℕ, ◌+◌, ◌<◌, ◌≤◌, List, [], ◌∷◌, ◌++◌, append_assoc, append-nil, length, drop, get_or}
+use Rattle.std.proofs.Common.{◌≡◌, inl, inr, refl, sym, ap, ◌∙◌, subst, ℕ, ◌+◌, ◌<◌, ◌≤◌, List, [], ◌∷◌, ◌++◌, append_assoc, append-nil, length, drop, get_or}
 use Rattle.std.proofs.lemmas.List.{drop_all}
-use Rattle.std.specs.Prelude.{Result, Ok, Err}
+use Rattle.std.specs.Prelude.{Result, Ok, Err, MatchResult}
 use Rattle.rb_trees.specs.Outcome.{Gives}
 use Rattle.rb_trees.specs.declared.values.Value.{Value}
 use Rattle.rb_trees.specs.declared.values.Fault.{Fault}
@@ -9,7 +9,7 @@ use Rattle.rb_engine.specs.Ends.{fault_of}
 use Rattle.rb_engine.specs.declared.ends.Failure.{Failure}
 use Rattle.rb_engine.specs.declared.ends.Failure.TheVariants as failure
 use Rattle.rb_meaning_code.specs.Remote.{Server, Reply, Got, Stopped, and_then, replies}
-use Rattle.rb_engine.specs.Misses.{at_place, Means, Replied}
+use Rattle.rb_engine.specs.Misses.{AtPlace, Means, MissesBy, Replied}
 use Rattle.rb_trees.specs.declared.scripts.SExpr.{SExpr}
 use Rattle.rb_trees.specs.mirror.Scripts as script
 use Rattle.rb_trees.specs.mirror.Scripts.{mirror_sexpr}
@@ -50,10 +50,16 @@ pub missed : {A B : Type 0} {m : Reply A} {t : Result A Miss} {s1 : Server} {h :
     → Replied m t s1 → t ≡ Err h → r ≡ Err h → Replied (and_then m k) r s1
 missed {m = m} {s1 = s1} {h = h} k f is e = by_result e (missed_by h m s1 k (subst (λ x. Means m x s1) is f.means))
 
+-- a fault at a position, or want of memory
+missed_at : {A : Type 0} {m : Reply A} {s : Server} (at : ℕ) (f : Fault) (t : Result A Miss) → MatchResult t (λ a. ⊥) (MissesBy at f) → m ≡ Stopped at f s → Replied m t s
+missed_at at f (Ok a) is e = absurd is
+missed_at at f (Err h) (inl is) e = by_result (ap Err is) (record { means = e })
+missed_at at f (Err h) (inr is) e = by_result (ap Err is) (record { means = tt })
+
 -- what a rule gives at a position
-pub ruled : {A : Type 0} {t : Result A Miss} {s : Server} (at : ℕ) (o : Result A Failure) (d : Result A Fault) → Gives (λ a. a) fault_of o d → t ≡ at_place at o → Replied (replies at d s) t s
+pub ruled : {A : Type 0} {t : Result A Miss} {s : Server} (at : ℕ) (o : Result A Failure) (d : Result A Fault) → Gives (λ a. a) fault_of o d → AtPlace at o t → Replied (replies at d s) t s
 ruled {s = s} at (Ok a) d g is = by_result is (record { means = ap (λ x. replies at x s) g })
-ruled {s = s} at (Err (failure.Fault f)) d g is = by_result is (record { means = ap (λ x. replies at x s) g })
+ruled {t = t} {s = s} at (Err (failure.Fault f)) d g is = missed_at at f t is (ap (λ x. replies at x s) g)
 ruled at (Err failure.Memory) d g is = by_result is (record { means = tt })
 
 -- values that were gained, and those that follow

@@ -1,7 +1,7 @@
 -- Turns over rows, one by one.
-use Rattle.std.proofs.Common.{◌≡◌, refl, sym, ap, ◌∙◌, subst, ℕ, suc, ◌+◌, ◌<◌, ◌≤◌, ◌%◌, ◌^◌, arith, List, [], ◌∷◌, ◌++◌, append_assoc, append-nil, length, drop, get_or}
+use Rattle.std.proofs.Common.{◌≡◌, inl, inr, refl, sym, ap, ◌∙◌, subst, ℕ, suc, ◌+◌, ◌<◌, ◌≤◌, ◌%◌, ◌^◌, arith, List, [], ◌∷◌, ◌++◌, append_assoc, append-nil, length, drop, get_or}
 use Rattle.std.proofs.lemmas.List.{drop_all}
-use Rattle.std.specs.Prelude.{Bool, true, false, is_some, Option, None, Some, Result, Ok, Err}
+use Rattle.std.specs.Prelude.{Bool, true, false, is_some, Option, None, Some, Result, Ok, Err, MatchResult}
 use Rattle.rb_trees.specs.Outcome.{Gives, ◌>>◌}
 use Rattle.rb_trees.specs.declared.values.Value.{Value}
 use Rattle.rb_trees.specs.declared.values.Fault.{Fault}
@@ -10,12 +10,13 @@ use Rattle.rb_trees.specs.mirror.Forests as forest
 use Rattle.rb_trees.specs.mirror.Forests.{Node, Nodes, NoNodes, MoreNodes, NoEntries, MoreEntries}
 use Rattle.rb_meaning_bytes.specs.formats.Fields.{number}
 use Rattle.rb_meaning_bytes.specs.formats.ForestBytes.{node_bytes, nodes_bytes, count_nodes}
+use Rattle.rb_meaning_code.specs.Faults.{fuel_used}
 use Rattle.rb_meaning_code.specs.Remote.{Server, replies}
 use Rattle.rb_meaning_code.specs.ScriptRun.{Vars, PlacedFault, Ran, Turned, Why, AllDone, InTurn, NoUnit, stopped, on_reply, may_keep, with_kept, with_unit, before_turns, turned_on, turns, turn_over, after_turns, walked}
 use Rattle.rb_wire_fields.specs.Buffers.{Keeps}
 use Rattle.rb_wire_fields.proofs.Kept.{keeps_same, keeps_more, keeps_through}
 use Rattle.rb_engine.specs.Ends.{fault_of}
-use Rattle.rb_engine.specs.Misses.{at_place}
+use Rattle.rb_engine.specs.Misses.{AtPlace, MissesBy}
 use Rattle.rb_engine.specs.Servers.{TakesUnit}
 use Rattle.rb_engine.specs.declared.ends.Failure.{Failure}
 use Rattle.rb_engine.specs.declared.ends.Failure.TheVariants as failure
@@ -29,7 +30,7 @@ use Rattle.rb_exec.specs.declared.turns.TurnsEnd.{TurnsEnd}
 use Rattle.rb_exec.specs.declared.turns.TurnsEnd.TheVariants as ends
 use Rattle.rb_exec.proofs.Dropped.{dropped_one}
 use Rattle.rb_exec.proofs.Entries.{gains_none, rows_added}
-use Rattle.rb_exec.proofs.Done.{by_result, did_behind, extends_itself}
+use Rattle.rb_exec.proofs.Done.{by_result, did_behind, extends_itself, stopped_by}
 
 -- What was written of turns so far, and what those that are left mean, are all.
 pub record TurnsSoFar {version : Version} (all : Turned) (before : Written version) (left : Turned) (now : Written version) : Type 0 where
@@ -128,7 +129,7 @@ after_so : {version : Version} (id at : ℕ) (why : Why) (s : Server) (end : Tur
     → Did (λ go. after_turns id at why s (λ s1. go vars s1)) w vars r w vars s
 after_so id at AllDone s end vars w r e d = by_result (subst (λ x. EndsTurns id at x r) e d) (record { does = gains_none w (λ go. refl); binds = extends_itself })
 after_so id at (InTurn f) s end vars w r e d = by_result (subst (λ x. EndsTurns id at x r) e d) (record { does = gains_none w (f, λ go. refl); binds = extends_itself })
-after_so id at NoUnit s end vars w r e d = by_result (subst (λ x. EndsTurns id at x r) e d) (record { does = gains_none w (λ go. refl); binds = extends_itself })
+after_so id at NoUnit s end vars w r e d = stopped_by w vars s (record { step = id; at = at; fault = fuel_used }) r (subst (λ x. EndsTurns id at x r) e d) (λ go. refl)
 
 pub turns_walked : {version : Version} {vars : Vars} {s : Server} {r : Result (Unit {0}) Stop} (id at : ℕ) (t : Turned) (old holed now new : List ℕ) (hole begun count counted : ℕ) (end : TurnsEnd)
     → hole ≡ length (old ++ 0x33 ∷ []) → holed ≡ old ++ 0x33 ∷ [] ++ number 0 → WroteTurns t (written version holed 0) end (written version now begun) s → new ≡ filled hole (number begun) now
@@ -153,21 +154,24 @@ turn_faults : (id at : ℕ) (keep : Bool) (row : Value) (f : Fault) (block : Ser
 turn_faults id at keep row f block s e = ap (λ c. on_reply id (replies at (c >> Ok row) s) (λ v s1. with_kept keep v (block s1))) e
 
 pub begins_so : (at : ℕ) (o : Result (Unit {0}) Failure) (d : Result (Unit {0}) Fault) (t : Result (Unit {0}) Miss) (u : Unit {0})
-    → Gives (λ x. x) fault_of o d → t ≡ at_place at o → t ≡ Ok u → d ≡ Ok tt
+    → Gives (λ x. x) fault_of o d → AtPlace at o t → t ≡ Ok u → d ≡ Ok tt
 begins_so at (Ok x) d t u g is was = g
-begins_so at (Err (failure.Fault f)) d t u g is was = absurd (cc (is, was))
+begins_so at (Err (failure.Fault f)) d t u g is was = absurd (subst (λ x. MatchResult x (λ a. ⊥) (MissesBy at f)) was is)
 begins_so at (Err failure.Memory) d t u g is was = absurd (cc (is, was))
+
+missed_so : (at place : ℕ) (x f : Fault) → MissesBy at x (miss.Fault place f) → (x ≡ f) × (at ≡ place)
+missed_so at place x f (inl e) = (cc e, cc e)
+missed_so at place x f (inr e) = absurd (cc e)
 
 -- A turn whose row may not be kept is its fault alone.
 pub turn_faulted : {version : Version} (id at place : ℕ) (keep : Bool) (row : Value) (f : Fault) (block : Server → Ran) (s : Server) (old new : List ℕ) (o : Result (Unit {0}) Failure) (t : Result (Unit {0}) Miss)
-    → Gives (λ x. x) fault_of o (may_keep keep row) → t ≡ at_place at o → t ≡ Err (miss.Fault place f) → new ≡ old ++ node_bytes version (faulted_node id place f)
+    → Gives (λ x. x) fault_of o (may_keep keep row) → AtPlace at o t → t ≡ Err (miss.Fault place f) → new ≡ old ++ node_bytes version (faulted_node id place f)
     → WroteNode version (turn_over id at keep block row s) old true new s
 turn_faulted id at place keep row f block s old new (Ok x) t g is was e = absurd (cc (is, was))
 turn_faulted {version = version} id at place keep row f block s old new (Err (failure.Fault x)) t g is was e =
-    let same : x ≡ f = cc (is, was) in
-    let there : at ≡ place = cc (is, was) in
+    let so = missed_so at place x f (subst (λ y. MatchResult y (λ a. ⊥) (MissesBy at x)) was is) in
     let meant : turn_over id at keep block row s ≡ stopped id place f s =
-    turn_faults id at keep row x block s g ∙ ap (λ y. stopped id at y s) same ∙ ap (λ y. stopped id y f s) there in
+    turn_faults id at keep row x block s g ∙ ap (λ y. stopped id at y s) so.0 ∙ ap (λ y. stopped id y f s) so.1 in
     record {
       bytes = e ∙ ap (λ r. old ++ node_bytes version r.node) (sym meant);
       stopped_so = ap (λ r. is_some r.fault) (sym meant);

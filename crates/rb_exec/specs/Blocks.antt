@@ -1,5 +1,5 @@
 -- How steps and blocks, as the code runs them, stand to what they mean.
-use Rattle.std.specs.Prelude.{◌≡◌, ℕ, List, ◌++◌, length, Bool, true, false, is_some, Option, None, Some, Result, Ok, Err}
+use Rattle.std.specs.Prelude.{◌≡◌, ℕ, List, ◌++◌, length, Bool, true, false, is_some, Option, None, Some, Result, Ok, Err, MatchResult}
 use Rattle.rb_trees.specs.declared.values.Value.{Value}
 use Rattle.rb_trees.specs.declared.values.Fault.{Fault}
 use Rattle.rb_trees.specs.declared.versions.Version.{Version}
@@ -11,7 +11,7 @@ use Rattle.rb_meaning_code.specs.Remote.{Server}
 use Rattle.rb_meaning_code.specs.ScriptRun.{Vars, PlacedFault, Ran, Turned, Why, AllDone, InTurn, NoUnit, with_entry, stopped, halted}
 use Rattle.rb_wire_fields.specs.Buffers.{Keeps}
 use Rattle.rb_exec.specs.Stages.{Rest, Meaning, Course}
-use Rattle.rb_exec.specs.Ends.{UnlessMemory}
+use Rattle.rb_exec.specs.Ends.{StopsBy, UnlessMemory}
 use Rattle.rb_exec.specs.Written.{Written, written, AddsNodes, Gains}
 use Rattle.rb_exec.specs.declared.run.Run.{Run}
 use Rattle.rb_exec.specs.declared.ends.Stop.{Stop}
@@ -115,8 +115,8 @@ Ended version (Err (stop.Fault f)) old halts new = (halts ≡ true) × (new ≡ 
 Ended version (Err stop.Within) old halts new = (halts ≡ true) × (new ≡ old ++ end_bytes version None)
 Ended version (Err stop.Memory) old halts new = ⊥
 
--- how the steps go on after turns
+-- how the steps go on after turns, where only a fault may want memory
 abbrev pub EndsTurns : ℕ → ℕ → TurnsEnd → Result (Unit {0}) Stop → Type 0
 EndsTurns id at ends.AllDone result = result ≡ Ok tt
 EndsTurns id at ends.InTurn result = result ≡ Err stop.Within
-EndsTurns id at ends.NoUnit result = result ≡ Err (stop.Fault (record { step = id; at = at; fault = fuel_used }))
+EndsTurns id at ends.NoUnit result = MatchResult result (λ a. ⊥) (StopsBy (record { step = id; at = at; fault = fuel_used }))

@@ -157,7 +157,7 @@ impl Scope<'_> {
 
     // The values of expressions from left to right.
     #[cycle(evaluating)]
-    #[inline(never)]
+    #[inline(always)]
     fn values_of(&self, server: &mut Server, exprs: &[SExpr]) -> Result<Seq<Value>, Miss>
         ensures { Replied (values_run self.now exprs.now server.old) result server.new }
     {

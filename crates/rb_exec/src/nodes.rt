@@ -122,7 +122,7 @@ fn put_fault(version: Version, fault: &NodeFault, bytes: &mut BytesMut) -> Resul
 
 /// Ends a node by how its steps ended, and tells whether a fault stopped them: puts the number of its entries into the
 /// room that was left for it, and appends its end.
-#[inline(never)]
+#[inline(always)]
 #[tactic(auto, using(rb_wire_fields::proofs::Kept::kept))]
 pub fn end_node(
     version: Version,
@@ -143,7 +143,7 @@ pub fn end_node(
             Ok(false)
         }
         Err(Stop::Fault(fault)) => {
-            put_fault(version, &fault, bytes)?;
+            put_fault(version, fault.get(), bytes)?;
             Ok(true)
         }
         Err(Stop::Within) => {

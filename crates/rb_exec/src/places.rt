@@ -46,6 +46,7 @@ impl Places {
     }
 
     /// Keeps another place of a number, or none. After an error the places are as they were.
+    #[inline(always)]
     pub(crate) fn set(&mut self, number: u32, place: Option<usize>) -> Result<(), Memory>
         ensures set { OnOk result (Sets number place (place_at self.old) (place_at self.new)) }
         ensures kept { OnErr result ((n : ℕ) → place_at self.new n ≡ place_at self.old n) }

@@ -1,8 +1,7 @@
 // What a script runs on, and where its steps stand.
 
 ghost use Rattle.std.specs.Prelude.{◌≡◌};
-ghost use Rattle.rb_engine.specs.Misses.{at_place};
-ghost use Rattle.rb_exec.specs.Ends.{Gets, at_step};
+ghost use Rattle.rb_exec.specs.Ends.{Gets, Ruled};
 ghost use Rattle.rb_exec.specs.Stages.{site_value};
 
 use crate::ends::{Stop, at_step};
@@ -47,7 +46,7 @@ impl Site<'_> {
             site: self,
             variables,
         };
-        at_step(self.id, scope.value_of(server, expr))
+        at_step(self.stage.alloc, self.id, scope.value_of(server, expr))
     }
 
     /// The value of a condition in the step.
@@ -64,14 +63,14 @@ impl Site<'_> {
             site: self,
             variables,
         };
-        at_step(self.id, scope.condition_of(server, expr))
+        at_step(self.stage.alloc, self.id, scope.condition_of(server, expr))
     }
 
     /// What a rule gives at the position of the step.
     #[inline(always)]
     pub fn ruled<T>(self, outcome: Result<T, Failure>) -> Result<T, Stop>
-        ensures { result ≡ at_step self.entry.id (at_place self.entry.at outcome) }
+        ensures { Ruled self.entry.id self.entry.at outcome result }
     {
-        at_step(self.id, at_place(self.at, outcome))
+        at_step(self.stage.alloc, self.id, at_place(self.at, outcome))
     }
 }

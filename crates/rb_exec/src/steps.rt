@@ -107,7 +107,7 @@ impl Run {
     }
 
     // A `Do`, which gives no entry.
-    #[inline(never)]
+    #[inline(always)]
     fn run_do(&mut self, site: Site<'_>, expr: &SExpr) -> Result<(), Stop>
         ensures { RunsQuietly site.entry.stage.now.version (do_run site.entry expr.now) self.old result self.new }
     {
@@ -116,7 +116,7 @@ impl Run {
     }
 
     // A `Keep`, whose value is an entry.
-    #[inline(never)]
+    #[inline(always)]
     fn run_keep(&mut self, entries: &mut u32, site: Site<'_>, expr: &SExpr) -> Result<(), Stop>
         ensures { let version = site.entry.stage.now.version in
             Runs version (keep_run site.entry expr.now) entries.old self.old result entries.new self.new }
@@ -128,7 +128,7 @@ impl Run {
     }
 
     // A `Let`, which binds its variable, and whose value is an entry where it is kept.
-    #[inline(never)]
+    #[inline(always)]
     fn run_let(
         &mut self,
         entries: &mut u32,
@@ -150,7 +150,7 @@ impl Run {
 
     // An `If`: the entry of the branch that was taken. A fault within it ends the steps.
     #[cycle(running)]
-    #[inline(never)]
+    #[inline(always)]
     fn run_if(
         &mut self,
         entries: &mut u32,

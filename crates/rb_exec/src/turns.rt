@@ -6,14 +6,14 @@ ghost use Rattle.rb_exec.specs.Blocks.{EndsTurns, RunsBlock, RunsTurns};
 ghost use Rattle.rb_exec.specs.Ends.{UnlessMemory};
 ghost use Rattle.rb_exec.specs.Stages.{kept_row_run, turn_run, turns_run};
 
-use crate::ends::Stop;
+use crate::ends::{Stop, stopped};
 use crate::holes::add_one;
 use crate::nodes::put_faulted;
 use crate::rules::{fuel_used, if_kept, may_keep};
 use crate::run::Run;
 use crate::stage::Site;
 use rb_engine::{Miss, at_place};
-use rb_trees::{NodeFault, Seq, Step, Value, copy_value};
+use rb_trees::{Seq, Step, Value, copy_value};
 
 /// An `Each` without its rows, or an `Over` without its items: where its step stands, the variable of its rows, whether they
 /// are kept, and its block.
@@ -73,6 +73,7 @@ impl Run {
         match at_place(site.at, may_keep(site.stage.alloc, walk.keep, row)) {
             Ok(()) => self.run_row(walk, row),
             Err(Miss::Fault(at, fault)) => {
+                let fault = fault.into_inner();
                 put_faulted(site.stage.version, site.id, at, fault, &mut self.bytes)?;
                 Ok(true)
             }
@@ -103,10 +104,9 @@ pub fn end_turns(site: Site<'_>, end: TurnsEnd) -> Result<(), Stop>
     match end {
         TurnsEnd::AllDone => Ok(()),
         TurnsEnd::InTurn => Err(Stop::Within),
-        TurnsEnd::NoUnit => Err(Stop::Fault(NodeFault {
-            step: site.id,
-            at: site.at,
-            fault: fuel_used(site.stage.alloc),
-        })),
+        TurnsEnd::NoUnit => {
+            let alloc = site.stage.alloc;
+            Err(stopped(alloc, site.id, site.at, fuel_used(alloc)))
+        }
     }
 }

@@ -75,6 +75,7 @@ impl Variables {
     }
 
     /// Binds a variable to a value. After an error nothing changed.
+    #[inline(always)]
     pub fn bind(&mut self, number: u32, value: Value) -> Result<(), Memory>
         ensures bound { OnOk result (self.new ≡ (number, value) ∷ self.old) }
         ensures kept { OnErr result (self.new ≡ self.old) }
@@ -97,6 +98,7 @@ impl Variables {
 
     /// Lets the later bindings go, so that the oldest so many stay: `oldest`.
     #[tactic(auto, using(crate::proofs::Guided::closings))]
+    #[inline(always)]
     pub fn close(&mut self, count: usize) -> Result<(), Memory>
         ensures { OnOk result (self.new ≡ oldest count self.old) }
     {
@@ -107,6 +109,7 @@ impl Variables {
     }
 
     // Lets the latest binding go, so that its variable has the value of before. After an error nothing changed.
+    #[inline(always)]
     fn forget(&mut self) -> Result<(), Memory>
         ensures { OnOk result (self.new ≡ without_latest self.old) }
     {

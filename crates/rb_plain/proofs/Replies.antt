@@ -1,10 +1,10 @@
 -- How replies follow one another, where the code gets them one by one.
-use Rattle.std.proofs.Common.{◌≡◌, refl, sym, ap, ◌∙◌, subst, ℕ}
-use Rattle.std.specs.Prelude.{Result, Ok, Err}
+use Rattle.std.proofs.Common.{◌≡◌, inl, inr, refl, sym, ap, ◌∙◌, subst, ℕ}
+use Rattle.std.specs.Prelude.{Result, Ok, Err, MatchResult}
 use Rattle.rb_trees.specs.Outcome.{Gives}
 use Rattle.rb_trees.specs.declared.values.Fault.{Fault}
 use Rattle.rb_engine.specs.Ends.{fault_of}
-use Rattle.rb_engine.specs.Misses.{Means, at_place}
+use Rattle.rb_engine.specs.Misses.{AtPlace, Means, MissesBy}
 use Rattle.rb_engine.specs.declared.ends.Failure.{Failure}
 use Rattle.rb_engine.specs.declared.ends.Failure.TheVariants as failure
 use Rattle.rb_engine.specs.declared.misses.Miss.{Miss}
@@ -86,10 +86,19 @@ missed {B = B} {m = m} {t = t} {w = w} {w1 = w1} {h = h} k f is e = by_result e 
   stage_so = unstarved_err B t h (SameStage w w1) (SameStage w w1) (λ x. x) is f.stage_so;
 })
 
+-- a fault at a position, unless its room is wanting
+pub missed_by_fault : {A : Type 0} {w w1 : RemoteWorld} {m : Reply A} (at : ℕ) (f : Fault) (h : Miss) → MissesBy at f h → Ended m (Err (miss.Fault at f)) w w1 → Ended m (Err h) w w1
+missed_by_fault at f h (inl is) d = by_result (ap Err is) d
+missed_by_fault at f h (inr is) d = by_result (ap Err is) (record { means = tt; stage_so = tt })
+
+missed_at : {A : Type 0} {w w1 : RemoteWorld} {m : Reply A} (at : ℕ) (f : Fault) (t : Result A Miss) → MatchResult t (λ a. ⊥) (MissesBy at f) → m ≡ Stopped at f w1.server → SameStage w w1 → Ended m t w w1
+missed_at at f (Ok a) is e same = absurd is
+missed_at at f (Err h) is e same = missed_by_fault at f h is (record { means = e; stage_so = same })
+
 -- what a rule gives at a position
-pub ruled : {A : Type 0} {t : Result A Miss} {w : RemoteWorld} (at : ℕ) (o : Result A Failure) (d : Result A Fault) → Gives (λ a. a) fault_of o d → t ≡ at_place at o → Ended (replies at d w.server) t w w
+pub ruled : {A : Type 0} {t : Result A Miss} {w : RemoteWorld} (at : ℕ) (o : Result A Failure) (d : Result A Fault) → Gives (λ a. a) fault_of o d → AtPlace at o t → Ended (replies at d w.server) t w w
 ruled {w = w} at (Ok a) d g is = by_result is (record { means = ap (λ x. replies at x w.server) g; stage_so = refl })
-ruled {w = w} at (Err (failure.Fault f)) d g is = by_result is (record { means = ap (λ x. replies at x w.server) g; stage_so = refl })
+ruled {t = t} {w = w} at (Err (failure.Fault f)) d g is = missed_at at f t is (ap (λ x. replies at x w.server) g) refl
 ruled at (Err failure.Memory) d g is = by_result is (record { means = tt; stage_so = tt })
 
 pub two_in_row : {B C D : Type 0} (m : Reply B) (l : B → Server → Reply C) (j : C → Server → Reply D) → and_then m (λ b s1. and_then (l b s1) j) ≡ and_then (and_then m l) j

@@ -9,7 +9,7 @@ ghost use Rattle.rb_plain.specs.Remote.{Ended, IsAnswered, SameStage, as_unit, c
 
 use crate::stage::Stage;
 use rb_changes::apply_all;
-use rb_engine::{Frame, Halt, Miss, RunResult, Server, State, World, eval};
+use rb_engine::{Frame, Halt, Miss, RunResult, Server, State, World, eval, missed};
 use rb_heap::Heap;
 use rb_trees::{Change, Expr, Fault, Memory, Raised, Seq, Value, fault_codes};
 use std::alloc::Global;
@@ -116,7 +116,7 @@ impl<'a> RemoteWorld<'a> {
         ) {
             Ok(value) => Ok(Ok(value)),
             Err(Miss::Fault(at, fault)) => Ok(Err(Raised {
-                fault,
+                fault: fault.into_inner(),
                 at,
                 remote: true,
             })),
@@ -186,7 +186,7 @@ pub fn value_of(
     };
     match eval(alloc, code, &mut state, frame, world, expr) {
         Ok(Ok(value)) => Ok(value),
-        Ok(Err(raised)) => Err(Miss::Fault(raised.at, raised.fault)),
+        Ok(Err(raised)) => Err(missed(alloc, raised.at, raised.fault)),
         Err(_) => Err(Miss::Memory),
     }
 }

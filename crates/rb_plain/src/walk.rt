@@ -15,7 +15,7 @@ ghost use Rattle.rb_plain.specs.Walks.{Kept, Walked, block_meant, branch_meant, 
 use crate::lists::items_named;
 use crate::remote_parts::{perform_both, perform_in};
 use crate::remote_world::{RemoteWorld, value_of};
-use rb_engine::{Failure, Frame, Miss, PlainFault, at_place, truth_of};
+use rb_engine::{Failure, Frame, Miss, PlainFault, at_place, missed, truth_of};
 use rb_flow::placed_form;
 use rb_meaning_flow::{PlacedForm, Role};
 use rb_scopes::Scope;
@@ -76,7 +76,7 @@ fn take_unit(alloc: Global, world: &mut RemoteWorld<'_>, at: u32) -> Result<(), 
     if world.server.take_unit() {
         return Ok(());
     }
-    Err(Miss::Fault(at, plain_fault(alloc, fault_codes::FUEL_USED)))
+    Err(missed(alloc, at, plain_fault(alloc, fault_codes::FUEL_USED)))
 }
 
 // The block that a condition chooses.

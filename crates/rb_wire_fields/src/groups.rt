@@ -32,6 +32,7 @@ fn may_end(last: u8, left: u32, unit: u64, group: u8) -> bool
 
 /// A number in at most so many groups and a last one, which is below `last` where it is the last that may be.
 #[tactic(auto, using(crate::proofs::Grouping::reading))]
+#[inline(always)]
 fn groups(last: u8, more: u32, bytes: &[u8]) -> Result<(u64, &[u8]), NoGroups>
     requires some { 1 < last }
     requires last { last ≤ 128 }

@@ -57,6 +57,7 @@ impl<'a> Cursor<'a> {
     ghost use Rattle.rb_wire_forest.specs.Opened.{opened};
 
     /// Takes the next entry of the innermost node, where that is a value. Else nothing changes.
+    #[inline(always)]
     pub fn value(&mut self) -> Option<Item<'a>>
         ensures { Takes value_seen next_value (opened self.old) result (opened self.new) }
     {
@@ -80,6 +81,7 @@ impl<'a> Cursor<'a> {
     }
 
     /// Takes a branch, and opens its node: which one was taken. Else nothing changes.
+    #[inline(always)]
     pub fn branch(&mut self) -> Option<bool>
         ensures { Takes (λ b. b) next_branch (opened self.old) result (opened self.new) }
     {
@@ -250,6 +252,7 @@ impl<'a> Cursor<'a> {
     }
 
     /// Closes the innermost, and passes over what is left of it. Nothing changes where it is the root.
+    #[inline(always)]
     pub fn close(&mut self) -> bool
         ensures { Moves closed (opened self.old) result (opened self.new) }
     {

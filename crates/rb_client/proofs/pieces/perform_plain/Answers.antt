@@ -4,5 +4,5 @@ use Rattle.rb_client.proofs.pieces.perform_plain.Goals as goal
 
 pub returns : goal.returns
 returns g c =
-    plain_so g.W.Sink c.args.code.now c.args.stmt.now c.from_ref.result.now (local c.args.frame.now c.args.state.now) (local c.exec_slice.new.frame c.exec_slice.new.state) c.args.world.now c.exec_slice.new.world
-    c.exec_slice.result c.flat.result c.from_ref.ensures.value c.flat.ensures c.exec_slice.ensures
+    plain_so g.W.Sink c.args.code.now c.args.stmt.now c.from_ref-body.result.now (local c.args.frame.now c.args.state.now) (local c.exec_early.new.frame c.exec_early.new.state) c.args.world.now c.exec_early.new.world
+    c.exec_early.result c.early_of.result c.from_ref-body.ensures.value c.early_of.ensures c.exec_early.ensures

@@ -173,7 +173,7 @@ run_turn-returns-in-Ok-clause-turn t c =
 pub run_turn-returns-in_ok-put_faulted-in-Err-Fault-clause-turn : goal.run_turn-returns-in_ok-put_faulted-in-Err-Fault-clause-turn
 run_turn-returns-in_ok-put_faulted-in-Err-Fault-clause-turn t c =
     turn_faulted c.args.walk.now.site.id c.args.walk.now.site.at c.in-Err-Fault.at c.args.walk.now.keep c.args.row.now c.in-Err-Fault.fault _ c.args.self.now.server _ _ c.may_keep.result c.at_place.result
-    c.may_keep.ensures c.at_place.ensures (c.in-Err-Fault.is ∙ ap Err c.in-Err-Fault.field-0-is) c.in_ok-put_faulted-in-Err-Fault.ensures.ok
+    c.may_keep.ensures c.at_place.ensures (c.in-Err-Fault.is ∙ ap Err c.in-Err-Fault.field-0-is) (rw c.into_inner-fault.ensures at c.in_ok-put_faulted-in-Err-Fault.ensures.ok)
 
 pub run_turns-rows-init : goal.run_turns-rows-init
 run_turns-rows-init t c = record { variables = refl; turns = turns_begin _ _ }
